@@ -1,0 +1,19 @@
+-- The bits of a number. Bit 0 is the lowest, and a number has bits without end: those above its highest set bit are 0.
+use Prim.Native.Nat.{ℕ, zero, suc, _+_, _-_, _*_, _/_, _%_, _^_}
+
+-- bit k of n, 0 or 1
+abbrev pub bit : ℕ → ℕ → ℕ
+bit n k = n / 2 ^ k % 2
+
+-- how many of the bits 0 to k - 1 of n are set
+unfoldable pub bitsSet : ℕ → ℕ → ℕ
+bitsSet n zero = 0
+bitsSet n (suc k) = bitsSet n k + bit n k
+
+-- n with bit k made 0, and its other bits kept
+abbrev pub clearBit : ℕ → ℕ → ℕ
+clearBit n k = n - bit n k * 2 ^ k
+
+-- n with bit k made 1, and its other bits kept
+abbrev pub setBit : ℕ → ℕ → ℕ
+setBit n k = clearBit n k + 2 ^ k

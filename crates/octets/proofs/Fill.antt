@@ -1,0 +1,55 @@
+-- A list filled from the front by a loop, one element a turn, until it is a table: one law for every element type, length and rule.
+use Prim.Native.Nat.{ℕ, zero, suc, _+_, _<_, _≤_}
+use mathlib.Core.Path.{_≡_, refl, ap, _∙_}
+use mathlib.Core.List.{List, [], _∷_}
+use native.Mathlib.Nat.{not-suc-le-zero, le-of-suc-le-suc}
+use native.Mathlib.Numerals.{add-one}
+use native.Mathlib.Omega.{arith}
+use lib.ListN.{length, getD, set}
+use Rattle.octets.specs.Table.{table}
+
+-- the first j elements of the table of f, then the elements of d
+abbrev pub front : {A : Type 0} → (ℕ → A) → List A → ℕ → List A
+front f d zero = d
+front f [] (suc j) = []
+front f (x ∷ d) (suc j) = f 0 ∷ front (λ k. f (suc k)) d j
+
+front-suc : {A : Type 0} (f : ℕ → A) (d : List A) (j : ℕ) → j < length d → set (front f d j) j (f j) ≡ front f d (suc j)
+front-suc f [] j h = absurd (not-suc-le-zero h)
+front-suc f (x ∷ d) zero h = refl
+front-suc {A} f (x ∷ d) (suc j) h = ap (λ (l : List A). f 0 ∷ l) (front-suc (λ k. f (suc k)) d j (le-of-suc-le-suc h))
+
+front-all : {A : Type 0} (f : ℕ → A) (d : List A) → front f d (length d) ≡ table (length d) f
+front-all f [] = refl
+front-all {A} f (x ∷ d) = ap (λ (l : List A). f 0 ∷ l) (front-all (λ k. f (suc k)) d)
+
+-- the loop's invariant: d is the list before the loop, a the list now, j the elements stored
+abbrev pub Filled : {A : Type 0} → (ℕ → A) → List A → List A → ℕ → Type 0
+Filled f d a j = (j ≤ length d) × (a ≡ front f d j)
+
+-- the length stays
+pub front-length : {A : Type 0} (f : ℕ → A) (d : List A) (j : ℕ) → length (front f d j) ≡ length d
+front-length f d zero = refl
+front-length f [] (suc j) = refl
+front-length f (x ∷ d) (suc j) = ap suc (front-length (λ k. f (suc k)) d j)
+
+-- one element more
+pub fill-more : {A : Type 0} (f : ℕ → A) (d a : List A) (j : ℕ) (v : A) → j < length d → v ≡ f j
+    → Filled f d a j → Filled f d (set a j v) (j + 1)
+fill-more f d a j v h e inv = (omega arith, rw (e, inv .1, add-one) (front-suc f d j h))
+
+-- the whole
+pub fill-done : {A : Type 0} (f : ℕ → A) (d a : List A) (j : ℕ) → length d ≤ j → Filled f d a j → a ≡ table (length d) f
+fill-done f d a j h inv =
+    let e : j ≡ length d = omega (arith, inv .0) in
+    inv .1 ∙ ap (front f d) e ∙ front-all f d
+
+-- a table's length and elements
+pub table-length : {A : Type 0} (n : ℕ) (f : ℕ → A) → length (table n f) ≡ n
+table-length zero f = refl
+table-length (suc n) f = ap suc (table-length n (λ k. f (suc k)))
+
+pub table-at : {A : Type 0} (n : ℕ) (f : ℕ → A) (j : ℕ) (d : A) → j < n → getD (table n f) j d ≡ f j
+table-at zero f j d h = absurd (not-suc-le-zero h)
+table-at (suc n) f zero d h = refl
+table-at (suc n) f (suc j) d h = table-at n (λ k. f (suc k)) j d (le-of-suc-le-suc h)

@@ -1,0 +1,59 @@
+-- Ladders of refusals: a condition that holds is passed, one that fails gives its number.
+use Prim.Native.Nat.{ℕ, zero, suc, _<_, _≤_}
+use mathlib.Core.Path.{_≡_, refl, sym, ap, _∙_}
+use mathlib.Core.Bool.{Bool, true, false}
+use native.Mathlib.Omega.{arith}
+use lib.Dec.{eqb, leb}
+use borrow.Author.Tests.{eq-eqb, ne-eqb, le-leb, lt-leb}
+use Rattle.octets.specs.Refusal.{refuse_unless_else_, Said, refused, answered, say, left}
+
+pub pass : (b : Bool) (n next r : ℕ) → b ≡ true → r ≡ next → r ≡ (refuse n unless b else next)
+unfolding refuse_unless_else_
+pass b n next r e q = rw e q
+
+pub fail : (b : Bool) (n next : ℕ) → b ≡ false → n ≡ (refuse n unless b else next)
+unfolding refuse_unless_else_
+fail b n next e = rw e
+
+-- the same for the two tests of numbers
+pub pass-eq : (x y n next r : ℕ) → x ≡ y → r ≡ next → r ≡ (refuse n unless (eqb x y) else next)
+pass-eq x y n next r e q = pass (eqb x y) n next r (eq-eqb x y e) q
+
+pub fail-eq : (x y n next : ℕ) → (x ≡ y → ⊥) → n ≡ (refuse n unless (eqb x y) else next)
+fail-eq x y n next e = fail (eqb x y) n next (ne-eqb x y e)
+
+pub pass-le : (x y n next r : ℕ) → x ≤ y → r ≡ next → r ≡ (refuse n unless (leb x y) else next)
+pass-le x y n next r e q = pass (leb x y) n next r (le-leb x y e) q
+
+pub fail-le : (x y n next : ℕ) → y < x → n ≡ (refuse n unless (leb x y) else next)
+fail-le x y n next e = fail (leb x y) n next (lt-leb x y e)
+
+-- a ladder that ends in 0 has passed its first condition, and the rest ends in 0
+pub passed : (b : Bool) (n next : ℕ) → (refuse (suc n) unless b else next) ≡ 0 → (b ≡ true) × (next ≡ 0)
+unfolding refuse_unless_else_
+passed true n next e = (refl, e)
+passed false n next e = absurd (omega arith)
+
+-- what is said, and what is left, by the ladder's number
+pub say-refused : {A : Type 0} (n m : ℕ) (a : A) → n ≡ m → (n ≡ 0 → ⊥) → refused n ≡ say m a
+say-refused zero m a e ne = absurd (ne refl)
+say-refused (suc n) m a e ne = ap (λ (k : ℕ). say k a) e
+
+pub say-answered : {A : Type 0} (m : ℕ) (a b : A) → m ≡ 0 → b ≡ a → answered b ≡ say m a
+say-answered {A} m a b e q = ap answered q ∙ ap (λ (k : ℕ). say k a) (sym e)
+
+pub left-refused : {A : Type 0} (n : ℕ) (new old : A) → (n ≡ 0 → ⊥) → left n new old ≡ old
+left-refused zero new old ne = absurd (ne refl)
+left-refused (suc n) new old ne = refl
+
+pub left-done : {A : Type 0} (n : ℕ) (new old : A) → n ≡ 0 → left n new old ≡ new
+left-done n new old e = ap (λ (k : ℕ). left k new old) e
+
+-- the number that was said, 0 for an answer
+abbrev pub numberSaid : {A : Type 0} → Said A → ℕ
+numberSaid (refused n) = n
+numberSaid (answered a) = 0
+
+pub number-say : {A : Type 0} (n : ℕ) (a : A) → numberSaid (say n a) ≡ n
+number-say zero a = refl
+number-say (suc n) a = refl

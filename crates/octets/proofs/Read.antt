@@ -1,0 +1,45 @@
+-- Laws of the numbers read from bytes, over the width.
+use Prim.Native.Nat.{ℕ, zero, suc, _+_, _*_, _^_, _<_, _≤_, min}
+use mathlib.Core.Path.{_≡_, refl, sym, ap, ap₂, _∙_}
+use mathlib.Core.List.{List}
+use native.Mathlib.Nat.{add-zero, pow-zero, pow-suc}
+use native.Mathlib.Decide.{decLe}
+use native.Mathlib.Omega.{arith}
+use lib.ListN.{length, getD, List·getD-eq-default}
+use Rattle.octets.specs.Bytes.{natAt, Octets}
+
+-- one byte more
+pub nat-suc : (s : List ℕ) (i n : ℕ) → natAt s i (suc n) ≡ natAt s i n * 256 + getD s (i + n) 0
+nat-suc s i zero = simp add-zero (omega arith)
+nat-suc s i (suc n) = refl
+
+-- past the end every number is 0
+pub nat-past : (s : List ℕ) (i n : ℕ) → length s ≤ i → natAt s i n ≡ 0
+nat-past s i zero h = refl
+nat-past s i (suc n) h =
+    let b : getD s (i + n) 0 ≡ 0 = List·getD-eq-default s 0 (omega arith) in
+    nat-suc s i n ∙ omega (arith, nat-past s i n h)
+
+-- a number of n bytes is below 256^n
+pub nat-lt : (s : List ℕ) (i n : ℕ) → Octets s → natAt s i n < 256 ^ n
+nat-lt s i zero o = omega (arith, pow-zero 256)
+nat-lt s i (suc n) o =
+    let e : 256 ^ suc n ≡ 256 ^ n * 256 = pow-suc 256 n in
+    let b : getD s (i + n) 0 < 256 = o (i + n) in
+    rw nat-suc (omega (arith, nat-lt s i n o))
+
+-- two places whose n bytes are equal hold the same number
+pub nat-same : (s t : List ℕ) (i j n : ℕ) → ((k : ℕ) → k < n → getD s (i + k) 0 ≡ getD t (j + k) 0) → natAt s i n ≡ natAt t j n
+nat-same s t i j zero f = refl
+nat-same s t i j (suc n) f =
+    nat-suc s i n
+    ∙ ap₂ (λ (x b : ℕ). x * 256 + b) (nat-same s t i j n (λ k h. f k (omega arith))) (f n (omega arith))
+    ∙ sym (nat-suc t j n)
+
+-- an index past the end may be taken for the end itself
+pub past-end : (s : List ℕ) (i k from : ℕ) → from ≡ min i (length s) → getD s (from + k) 0 ≡ getD s (i + k) 0
+past-end s i k from e = go (decLe i (length s))
+  where
+    go : Dec (i ≤ length s) → getD s (from + k) 0 ≡ getD s (i + k) 0
+    go (yes h) = ap (λ (j : ℕ). getD s (j + k) 0) (omega arith)
+    go (no h) = List·getD-eq-default s 0 (omega arith) ∙ sym (List·getD-eq-default s 0 (omega arith))

@@ -1,0 +1,89 @@
+-- Laws of stored bytes.
+use Prim.Native.Nat.{ℕ, zero, suc, _+_, _-_, _<_, _≤_, min}
+use mathlib.Core.Path.{_≡_, refl, sym, ap, _∙_}
+use mathlib.Core.List.{List, [], _∷_, _++_, append-nil, append-assoc}
+use native.Mathlib.Nat.{add-zero, add-suc, suc-add}
+use native.Mathlib.Numerals.{add-one}
+use native.Mathlib.Decide.{decLe}
+use native.Mathlib.Omega.{arith}
+use lib.ListN.{length, getD, set, take, drop, length-set, drop-of-length-le}
+use lib.Seq.{sets, sets-eq, set-out, length-sets, take-suc, take-all, length-take-le}
+use Rattle.octets.specs.Bytes.{put}
+
+-- where the bytes have room: those before, the bytes, those after
+pub put-splice : (s b : List ℕ) (i : ℕ) → i + length b ≤ length s → put s i b ≡ take i s ++ (b ++ drop (i + length b) s)
+unfolding put
+put-splice s b i h = sets-eq b s i h ∙ append-assoc (take i s) b (drop (i + length b) s)
+
+pub put-length : (s : List ℕ) (i : ℕ) (b : List ℕ) → length (put s i b) ≡ length s
+unfolding put
+put-length s i b = length-sets s i b
+
+pub put-nothing : (s : List ℕ) (i : ℕ) → put s i [] ≡ s
+unfolding put
+put-nothing s i = refl
+
+-- bytes stored, and more where they end, are one store
+pub put-then : (a s b : List ℕ) (i k : ℕ) → i + length a ≡ k → put (put s i a) k b ≡ put s i (a ++ b)
+unfolding put
+put-then [] s b i k e = ap (λ (j : ℕ). sets s j b) (omega arith)
+put-then (x ∷ a) s b i k e = put-then a (set s i x) b (suc i) k (omega arith)
+
+-- bytes that fill the whole list
+pub put-whole : (s b : List ℕ) → length b ≡ length s → put s 0 b ≡ b
+put-whole s b e =
+    put-splice s b 0 (omega arith)
+    ∙ ap (λ (r : List ℕ). b ++ r) (drop-of-length-le s {i = 0 + length b} (omega arith)) ∙ append-nil b
+
+-- nothing is stored past the end
+pub put-past : (b s : List ℕ) (i : ℕ) → length s ≤ i → put s i b ≡ s
+unfolding put
+put-past [] s i h = refl
+put-past (x ∷ b) s i h =
+    ap (λ (l : List ℕ). sets l (suc i) b) (set-out s i x h) ∙ put-past b s (suc i) (omega arith)
+
+-- only as many bytes as there is room for
+pub put-room : (b s : List ℕ) (i n : ℕ) → length s ≤ i + n → put s i (take n b) ≡ put s i b
+unfolding put
+put-room b s i zero h = sym (put-past b s i (omega arith))
+put-room [] s i (suc n) h = refl
+put-room (x ∷ b) s i (suc n) h = put-room b (set s i x) (suc i) n (rw length-set (omega arith))
+
+one : (s : List ℕ) (i v : ℕ) → set s i v ≡ put s i (v ∷ [])
+unfolding put
+one s i v = refl
+
+-- the loop's invariant: d is the list before the loop, out the list now, k the bytes stored
+abbrev pub Stored : List ℕ → ℕ → List ℕ → List ℕ → ℕ → Type 0
+Stored b i d out k = (length out ≡ length d) × (out ≡ put d i (take k b))
+
+-- before the first byte
+pub store-none : (b : List ℕ) (i : ℕ) (d : List ℕ) → Stored b i d d 0
+store-none b i d = (refl, sym (put-nothing d i))
+
+-- one byte more
+pub store-more : (b d out : List ℕ) (i k : ℕ) → k < length b → Stored b i d out k → Stored b i d (set out (i + k) (getD b k 0)) (k + 1)
+store-more b d out i k h inv = (
+  length-set out (i + k) (getD b k 0) ∙ inv .0,
+  let n : i + length (take k b) ≡ i + k = ap (λ (j : ℕ). i + j) (length-take-le k b (omega arith)) in
+      let x : List ℕ = getD b k 0 ∷ [] in
+      let e : take (k + 1) b ≡ take k b ++ x = ap (λ (j : ℕ). take j b) (add-one k) ∙ take-suc b k 0 h in
+      one out (i + k) (getD b k 0) ∙ ap (λ (l : List ℕ). put l (i + k) x) (inv .1)
+      ∙ put-then (take k b) d x i (i + k) n ∙ ap (put d i) (sym e),
+)
+
+-- the whole, from an index and a count that were cut to the room
+pub store-done : (b d out : List ℕ) (i from n k : ℕ) → from ≡ min i (length d) → n ≡ min (length b) (length d - from) → n ≡ k
+    → Stored b from d out k → out ≡ put d i b
+store-done b d out i from n k ef en ek inv = inv .1 ∙ go (decLe i (length d))
+  where
+    cut : put d from (take k b) ≡ put d from b
+    cut = short (decLe (length b) k)
+      where
+        short : Dec (length b ≤ k) → put d from (take k b) ≡ put d from b
+        short (yes h) = ap (put d from) (take-all k b h)
+        short (no h) = put-room b d from k (omega arith)
+
+    go : Dec (i ≤ length d) → put d from (take k b) ≡ put d i b
+    go (yes h) = cut ∙ ap (λ (j : ℕ). put d j b) (omega arith)
+    go (no h) = cut ∙ put-past b d from (omega arith) ∙ sym (put-past b d i (omega arith))

@@ -1,0 +1,20 @@
+-- The unsigned number, then its two's complement reading.
+use mathlib.Core.Path.{ap, _∙_}
+use mir.Syntax.{w16}
+use Rattle.numbers.proofs.Ranges.{held}
+use Rattle.octets.specs.Bytes.{signed}
+use borrow.Author.Needs.{needs}
+use Rattle.octets.proofs.i16_at.Statement.{statement}
+use Rattle.octets.proofs.i16_at.Tie as tie
+
+u16-at-requires : tie.Need-u16-at-requires
+u16-at-requires c κs = search needs
+
+to-i16-requires : tie.Need-to-i16-requires
+to-i16-requires c κs = search needs
+
+returns : tie.Need-returns
+returns c = held w16 (c .to-i16 .ok) (c .to-i16 .ensures ∙ ap (signed 16) (c .before .u16-at .ensures))
+
+pub i16-at-spec : {M : Type 1} → statement M
+i16-at-spec = tie.close (tie.spec u16-at-requires to-i16-requires returns)

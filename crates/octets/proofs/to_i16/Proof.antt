@@ -1,0 +1,31 @@
+-- The lower half of the numbers is read as it stands, the upper half by the law of two's complement.
+use borrow.Author.Tests.{lt-ltb, le-ltb}
+use mir.Syntax.{w16}
+use Rattle.numbers.proofs.Complement.{lower-fits, lower}
+use borrow.Author.Needs.{needs}
+use Rattle.octets.proofs.to_i16.Statement.{statement}
+use Rattle.octets.proofs.to_i16.Tie as tie
+
+cast-result : tie.Need-cast-result
+cast-result c = search needs
+
+sub-result : tie.Need-sub-result
+sub-result c = search needs
+
+cast-result-2 : tie.Need-cast-result-2
+cast-result-2 c = search needs
+
+sub-result-2 : tie.Need-sub-result-2
+sub-result-2 c = lower-fits w16 (c .before .args .x) (c .before .fits .x) (c .if1 .left)
+
+returns : tie.Need-returns
+returns c = simp (lt-ltb _ _ (c .if1 .taken))
+
+returns-2 : tie.Need-returns-2
+returns-2 c =
+    let x = c .before .args .x in
+    simp (le-ltb x 32768 (c .if1 .left)) (lower w16 x (c .before .fits .x) (c .if1 .left))
+
+pub to-i16-spec : {M : Type 1} → statement M
+to-i16-spec =
+    tie.close (tie.spec cast-result sub-result cast-result-2 sub-result-2 returns returns-2)

@@ -1,0 +1,25 @@
+-- Refusals. Document 01, "Refusal numbers": each returns its number and no field, and writes nothing; a number is given exactly on its
+-- condition, the first in the order.
+use Prim.Native.Nat.{ℕ, zero, suc}
+use mathlib.Core.Bool.{Bool, true, false}
+
+-- the number n where the condition fails, else what the later conditions give; a ladder ends in 0, which refuses nothing
+infixr 3 refuse_unless_else_
+unfoldable pub refuse_unless_else_ : ℕ → Bool → ℕ → ℕ
+refuse n unless true else next = next
+refuse n unless false else next = n
+
+-- what an entry says: a refusal's number, or its answer
+pub data Said (A : Type 0) : Type 0 where
+  refused : ℕ → Said A
+  answered : A → Said A
+
+-- what is said by a ladder's number
+abbrev pub say : {A : Type 0} → ℕ → A → Said A
+say zero a = answered a
+say (suc n) a = refused (suc n)
+
+-- what stands afterwards, by a ladder's number: what the work leaves, or what stood before
+abbrev pub left : {A : Type 0} → ℕ → A → A → A
+left zero new old = new
+left (suc n) new old = old

@@ -1,0 +1,13 @@
+-- A list given by a rule for each index.
+use Prim.Native.Nat.{ℕ, zero, suc, _+_}
+use mathlib.Core.List.{List, [], _∷_}
+use lib.ListN.{getD}
+
+-- f 0, f 1, .., f (n - 1)
+abbrev pub table : {A : Type 0} → ℕ → (ℕ → A) → List A
+table zero f = []
+table (suc n) f = f 0 ∷ table n (λ k. f (suc k))
+
+-- the n bytes of s from index i on, a byte past the end being 0
+unfoldable pub octetsAt : List ℕ → ℕ → ℕ → List ℕ
+octetsAt s i n = table n (λ k. getD s (i + k) 0)
