@@ -80,7 +80,7 @@ bit-mod n w j h =
 
 -- ---- or, and, not
 
--- bit by bit, or takes the greater and and the lesser
+-- a bit of `a | b` is the greater of the two bits there, and a bit of `a & b` the lesser
 or-lowest : (a b : ℕ) → bitOr a b % 2 ≡ max (a % 2) (b % 2)
 or-lowest a b = omega (arith, or-step a b)
 
@@ -140,11 +140,11 @@ bit-pow-other k j h = ⊎-elim below above (lt-or-ge j k)
 pub one-shl : (w k : ℕ) → k < w → 1 * 2 ^ k % 2 ^ w ≡ 2 ^ k
 one-shl w k h = shl-exact {a = 1} 1 k w (lit< tt) (omega arith) ∙ one-mul (2 ^ k)
 
--- `n & 1 << k` is 2 ^ k where bit k is set, and 0 where it is not
+-- `n & (1 << k)` is 2 ^ k where bit k is set, and 0 where it is not
 pub and-pow : (n k : ℕ) → bitAnd n (2 ^ k) ≡ bit n k * 2 ^ k
 and-pow n k = ap (bitAnd n) (sym (high-ones 1 k ∙ one-mul (2 ^ k))) ∙ and-high n 1 k
 
--- `n & 1 << k != 0` asks whether bit k is set
+-- `n & (1 << k) != 0` asks whether bit k is set
 pub mask-test : (n k : ℕ) → not (eqb (bitAnd n (2 ^ k)) 0) ≡ eqb (bit n k) 1
 mask-test n k = ap (λ (x : ℕ). not (eqb x 0)) (and-pow n k) ∙ go (bit n k) (bit-lt n k)
   where
@@ -153,14 +153,14 @@ mask-test n k = ap (λ (x : ℕ). not (eqb x 0)) (and-pow n k) ∙ go (bit n k) 
     go (suc zero) l = ap not (ne-eqb (1 * 2 ^ k) 0 (λ e. omega (arith, pow-pos k)))
     go (suc (suc d)) l = absurd (omega arith)
 
--- `n & !(1 << k)` clears bit k, and `n | 1 << k` sets it
+-- `n & !(1 << k)` clears bit k, and `n | (1 << k)` sets it
 pub clear-bit : (w n k : ℕ) → n < 2 ^ w → k < w → bitAnd n ((2 ^ w - 1) - 2 ^ k) ≡ clearBit n k
 clear-bit w n k h l = omega (arith, and-not w n (2 ^ k) h (pow-lt l), and-pow n k)
 
 pub set-bit : (n k : ℕ) → bitOr n (2 ^ k) ≡ setBit n k
 set-bit n k = omega (arith, or-add-and n (2 ^ k), and-pow n k, and-le-l n (2 ^ k))
 
--- either leaves a word of w bits
+-- a word of w bits stays one, with a bit cleared or set
 pub clear-lt : (w n k : ℕ) → n < 2 ^ w → clearBit n k < 2 ^ w
 clear-lt w n k h = omega arith
 
@@ -190,7 +190,7 @@ module _ (w n k : ℕ) (h : n < 2 ^ w) (l : k < w) where
 
 -- ---- counts
 
--- the set bits of the k lowest, counted one by one
+-- the number of ones among the k lowest bits is the count of those that are set
 ones-digit : (d : ℕ) → d < 2 → ones d ≡ d
 unfolding ones
 ones-digit zero h = refl
@@ -209,7 +209,7 @@ ones-bits n (suc k) =
 
 -- ---- numbers side by side, and masks of low bits
 
--- `a << k | b` in w bits puts a before the k bits of b
+-- `a << k | b` in w bits is the number whose high part is a and whose k low bits are b
 pub cat : (j k w a b : ℕ) → a < 2 ^ j → j + k ≤ w → b < 2 ^ k → bitOr (a * 2 ^ k % 2 ^ w) b ≡ a * 2 ^ k + b
 cat j k w a b ha l hb = ap (λ (x : ℕ). bitOr x b) (shl-exact j k w ha l) ∙ or-shifted a k b hb
 

@@ -6,8 +6,8 @@ use native.Mathlib.Nat.{add-zero, add-suc, suc-add}
 use native.Mathlib.Numerals.{add-one}
 use native.Mathlib.Decide.{decLe}
 use native.Mathlib.Omega.{arith}
-use lib.ListN.{length, getD, set, take, drop, length-set, drop-of-length-le}
-use lib.Seq.{sets, sets-eq, set-out, length-sets, take-suc, take-all, length-take-le}
+use lib.ListN.{length, getD, set, take, drop, length-set, length-append, drop-of-length-le}
+use lib.Seq.{sets, sets-eq, set-out, length-sets, take-suc, take-all, length-take-le, take-at, drop-at}
 use Rattle.octets.specs.Bytes.{put}
 
 -- where the bytes have room: those before, the bytes, those after
@@ -34,6 +34,22 @@ pub put-whole : (s b : List ℕ) → length b ≡ length s → put s 0 b ≡ b
 put-whole s b e =
     put-splice s b 0 (omega arith)
     ∙ ap (λ (r : List ℕ). b ++ r) (drop-of-length-le s {i = 0 + length b} (omega arith)) ∙ append-nil b
+
+-- bytes stored over as many others
+pub put-over : (s a b : List ℕ) (i : ℕ) → i + length a ≤ length s → length b ≡ length a → put (put s i a) i b ≡ put s i b
+put-over s a b i h e =
+    let n : length (take i s) ≡ i = length-take-le i s (omega arith) in
+    let l : length (put s i a) ≡ length s = put-length s i a in
+    let r : List ℕ = drop (i + length a) s in
+    let q : put s i a ≡ take i s ++ (a ++ r) = put-splice s a i h in
+    let j : i + length b ≡ i + length a = ap (λ (k : ℕ). i + k) e in
+    let d : drop (i + length b) (put s i a) ≡ drop (i + length b) s =
+    ap (drop (i + length b)) (q ∙ sym (append-assoc (take i s) a r))
+    ∙ drop-at (take i s ++ a) r (i + length b) (length-append (take i s) a ∙ omega arith) ∙ ap (λ (k : ℕ). drop k s) (sym j) in
+    let t : take i (put s i a) ≡ take i s = ap (take i) q ∙ take-at (take i s) (a ++ r) i n in
+    put-splice (put s i a) b i (omega arith)
+    ∙ (λ k. t k ++ (b ++ d k))
+    ∙ sym (put-splice s b i (omega arith))
 
 -- nothing is stored past the end
 pub put-past : (b s : List ℕ) (i : ℕ) → length s ≤ i → put s i b ≡ s
