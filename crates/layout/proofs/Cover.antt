@@ -2,7 +2,7 @@
 -- cut, are as they were.
 use Prim.Native.Nat.{ℕ, zero, suc, _+_, _*_, _<_, _≤_}
 use mathlib.Core.Path.{_≡_, refl, sym, ap, _∙_}
-use mathlib.Core.Bool.{Bool, true, false}
+use mathlib.Core.Bool.{Bool, true, false, _&&_}
 use mathlib.Core.List.{List, [], _∷_, _++_, append-assoc}
 use native.Mathlib.Omega.{arith}
 use borrow.Author.Tests.{eqb-true, le-leb, lt-leb, ltb-true, ltb-false}
@@ -10,9 +10,9 @@ use lib.Dec.{eqb, leb, ltb}
 use lib.ListN.{length, take, drop, take-append-drop, drop-of-length-le, length-append}
 use lib.Seq.{drop-drop, take-at, drop-at}
 use Rattle.octets.specs.Bytes.{part}
-use Rattle.layout.specs.Column.{Column, size, both, one, tiles, holders, cut, join}
+use Rattle.layout.specs.Column.{Column, size, one, tiles, holders, cut, join}
 
-both-true : (a b : Bool) → both a b ≡ true → (a ≡ true) × (b ≡ true)
+both-true : (a b : Bool) → (a && b) ≡ true → (a ≡ true) × (b ≡ true)
 both-true true b e = (refl, e)
 both-true false b e = absurd (let z : _≡_ {A = ℕ} 0 1 = ap one e in omega arith)
 

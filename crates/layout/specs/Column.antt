@@ -1,6 +1,6 @@
 -- A published layout as data: a list of columns.
 use Prim.Native.Nat.{ℕ, zero, suc, _+_, _*_}
-use mathlib.Core.Bool.{Bool, true, false}
+use mathlib.Core.Bool.{Bool, true, false, _&&_}
 use mathlib.Core.List.{List, [], _∷_, _++_}
 use lib.Dec.{eqb, leb, ltb}
 use Rattle.octets.specs.Bytes.{natAt, part}
@@ -18,14 +18,10 @@ column s w n = record { start = s; width = w; items = n }
 abbrev pub size : Column → ℕ
 size c = c .width * c .items
 
-abbrev pub both : Bool → Bool → Bool
-both true b = b
-both false b = false
-
 -- each column starts where the one before it ends, the first at byte a, and the last ends before byte b
 abbrev pub tiles : ℕ → ℕ → List Column → Bool
 tiles a b [] = eqb a b
-tiles a b (c ∷ cs) = both (eqb (c .start) a) (tiles (a + size c) b cs)
+tiles a b (c ∷ cs) = eqb (c .start) a && tiles (a + size c) b cs
 
 -- how many of the columns hold byte k
 abbrev pub one : Bool → ℕ
@@ -34,7 +30,7 @@ one false = 0
 
 unfoldable pub holders : ℕ → List Column → ℕ
 holders k [] = 0
-holders k (c ∷ cs) = one (both (leb (c .start) k) (ltb k (c .start + size c))) + holders k cs
+holders k (c ∷ cs) = one (leb (c .start) k && ltb k (c .start + size c)) + holders k cs
 
 -- the number in a column of one item, and the bytes of a column of bytes
 abbrev pub number : List ℕ → Column → ℕ

@@ -1,11 +1,11 @@
 -- Ladders of refusals: a condition that holds is passed, one that fails gives its number.
 use Prim.Native.Nat.{ℕ, zero, suc, _<_, _≤_}
 use mathlib.Core.Path.{_≡_, refl, sym, ap, _∙_}
-use mathlib.Core.Bool.{Bool, true, false}
+use mathlib.Core.Bool.{Bool, true, false, _&&_, false≢true}
 use native.Mathlib.Omega.{arith}
 use lib.Dec.{eqb, leb}
-use borrow.Author.Tests.{eq-eqb, ne-eqb, le-leb, lt-leb}
-use Rattle.octets.specs.Refusal.{refuse_unless_else_, Said, refused, answered, say, left}
+use borrow.Author.Tests.{eq-eqb, ne-eqb, le-leb, lt-leb, leb-true}
+use Rattle.octets.specs.Refusal.{refuse_unless_else_, _then_, within, Said, refused, answered, say, left}
 
 pub pass : (b : Bool) (n next r : ℕ) → b ≡ true → r ≡ next → r ≡ (refuse n unless b else next)
 unfolding refuse_unless_else_
@@ -27,6 +27,38 @@ pass-le x y n next r e q = pass (leb x y) n next r (le-leb x y e) q
 
 pub fail-le : (x y n next : ℕ) → y < x → n ≡ (refuse n unless (leb x y) else next)
 fail-le x y n next e = fail (leb x y) n next (lt-leb x y e)
+
+-- a number within its bounds, below them and above them
+pub pass-within : (lo hi x n next r : ℕ) → lo ≤ x → x ≤ hi → r ≡ next → r ≡ (refuse n unless (within lo hi x) else next)
+pass-within lo hi x n next r a b q = pass (within lo hi x) n next r (rw (le-leb lo x a) (le-leb x hi b)) q
+
+pub fail-below : (lo hi x n next : ℕ) → x < lo → n ≡ (refuse n unless (within lo hi x) else next)
+fail-below lo hi x n next a = fail (within lo hi x) n next (rw (lt-leb lo x a))
+
+pub fail-above : (lo hi x n next : ℕ) → lo ≤ x → hi < x → n ≡ (refuse n unless (within lo hi x) else next)
+fail-above lo hi x n next a b = fail (within lo hi x) n next (rw (le-leb lo x a) (lt-leb x hi b))
+
+pub within-true : (lo hi x : ℕ) → within lo hi x ≡ true → (lo ≤ x) × (x ≤ hi)
+within-true lo hi x e = go (leb lo x) refl e
+  where
+    go : (b : Bool) → leb lo x ≡ b → (b && leb x hi) ≡ true → (lo ≤ x) × (x ≤ hi)
+    go true l h = (leb-true lo x l, leb-true x hi h)
+    go false l h = absurd (false≢true h)
+
+-- one ladder after another: the first refuses, or it passes
+pub then-fail : (k next r : ℕ) → r ≡ k → (r ≡ 0 → ⊥) → r ≡ (k then next)
+unfolding _then_
+then-fail zero next r e ne = absurd (ne e)
+then-fail (suc k) next r e ne = e
+
+pub then-pass : (k next r : ℕ) → k ≡ 0 → r ≡ next → r ≡ (k then next)
+unfolding _then_
+then-pass k next r e q = rw e q
+
+pub then-zero : (k next : ℕ) → (k then next) ≡ 0 → (k ≡ 0) × (next ≡ 0)
+unfolding _then_
+then-zero zero next e = (refl, e)
+then-zero (suc k) next e = absurd (omega arith)
 
 -- a ladder that ends in 0 has passed its first condition, and the rest ends in 0
 pub passed : (b : Bool) (n next : ℕ) → (refuse (suc n) unless b else next) ≡ 0 → (b ≡ true) × (next ≡ 0)

@@ -1,13 +1,24 @@
 -- Refusals. Document 01, "Refusal numbers": each returns its number and no field, and writes nothing; a number is given exactly on its
 -- condition, the first in the order.
 use Prim.Native.Nat.{ℕ, zero, suc}
-use mathlib.Core.Bool.{Bool, true, false}
+use lib.Dec.{leb}
+use mathlib.Core.Bool.{Bool, true, false, _&&_}
 
 -- the number n where the condition fails, else what the later conditions give; a ladder ends in 0, which refuses nothing
 infixr 3 refuse_unless_else_
 unfoldable pub refuse_unless_else_ : ℕ → Bool → ℕ → ℕ
 refuse n unless true else next = next
 refuse n unless false else next = n
+
+-- a ladder, and where it refuses nothing the next
+infixr 3 _then_
+unfoldable pub _then_ : ℕ → ℕ → ℕ
+zero then next = next
+suc n then next = suc n
+
+-- x lies from lo to hi
+abbrev pub within : ℕ → ℕ → ℕ → Bool
+within lo hi x = leb lo x && leb x hi
 
 -- what an entry says: a refusal's number, or its answer
 pub data Said (A : Type 0) : Type 0 where
