@@ -2,10 +2,10 @@
 use Prim.Native.Nat.{ℕ, zero, suc, _+_, _-_, _*_, _/_, _%_, _^_, _<_, _≤_}
 use mathlib.Core.Path.{_≡_, refl, sym, ap, ap₂, _∙_}
 use mathlib.Core.List.{List, [], _∷_, _++_}
-use native.Mathlib.Nat.{pow-zero, pow-suc, div-one, div-div-eq-div-mul, mul-comm, div-add-mod'}
+use native.Mathlib.Nat.{add-zero, pow-zero, pow-suc, div-div-eq-div-mul, mul-comm, div-add-mod'}
 use native.Mathlib.Omega.{arith}
 use lib.ListN.{length, getD, take, drop, length-drop, List·getD-append}
-use lib.Seq.{take-suc, getD-drop, getD-take, getD-at, length-take-le, ext-getD}
+use lib.Seq.{drop-cons, take-suc, getD-drop, getD-take, getD-at, length-take-le, ext-getD}
 use Rattle.octets.specs.Bytes.{natAt, octetsOf, part, Octets}
 use Rattle.octets.specs.Table.{table, octetsAt}
 use Rattle.octets.proofs.Fill.{table-length, table-at}
@@ -13,15 +13,17 @@ use Rattle.octets.proofs.Read.{nat-suc, nat-same}
 
 pub octets-length : (n x : ℕ) → length (octetsOf n x) ≡ n
 octets-length zero x = refl
-octets-length (suc n) x = ap suc (octets-length n x)
+octets-length (suc zero) x = refl
+octets-length (suc (suc n)) x = ap suc (octets-length (suc n) x)
 
 -- the last byte apart
 octets-last : (n x : ℕ) → octetsOf (suc n) x ≡ octetsOf n (x / 256) ++ (x % 256 ∷ [])
-octets-last zero x = ap (λ (y : ℕ). y % 256 ∷ []) (div-one x)
-octets-last (suc n) x =
-    let e : x / 256 ^ suc n ≡ x / 256 / 256 ^ n =
-    ap (λ (p : ℕ). x / p) (pow-suc 256 n ∙ mul-comm (256 ^ n) 256) ∙ sym (div-div-eq-div-mul x 256 (256 ^ n)) in
-    ap₂ (λ (y : ℕ) (l : List ℕ). y % 256 ∷ l) e (octets-last n x)
+octets-last zero x = refl
+octets-last (suc zero) x = refl
+octets-last (suc (suc n)) x =
+    let e : x / 256 ^ suc (suc n) ≡ x / 256 / 256 ^ suc n =
+    ap (λ (p : ℕ). x / p) (pow-suc 256 (suc n) ∙ mul-comm (256 ^ suc n) 256) ∙ sym (div-div-eq-div-mul x 256 (256 ^ suc n)) in
+    ap₂ (λ (y : ℕ) (l : List ℕ). y % 256 ∷ l) e (octets-last (suc n) x)
 
 pub part-length : (s : List ℕ) (i n : ℕ) → i + n ≤ length s → length (part s i n) ≡ n
 part-length s i n h = length-take-le n (drop i s) (rw length-drop (omega arith))
@@ -32,6 +34,13 @@ part-at s i n k h = getD-take n (drop i s) k 0 h ∙ getD-drop i s k 0
 part-last : (s : List ℕ) (i n : ℕ) → i + suc n ≤ length s → part s i (suc n) ≡ part s i n ++ (getD s (i + n) 0 ∷ [])
 part-last s i n h =
     take-suc (drop i s) n 0 (rw length-drop (omega arith)) ∙ ap (λ (b : ℕ). part s i n ++ (b ∷ [])) (getD-drop i s n 0)
+
+-- a column of one byte
+pub part-one : (s : List ℕ) (i : ℕ) → i < length s → part s i 1 ≡ getD s i 0 ∷ []
+part-one s i h = ap (take 1) (drop-cons s i 0 h)
+
+pub read-one : (s : List ℕ) (i x : ℕ) → part s i 1 ≡ x ∷ [] → getD s i 0 ≡ x
+read-one s i x e = ap (λ (j : ℕ). getD s j 0) (sym (add-zero i)) ∙ sym (part-at s i 1 0 (omega arith)) ∙ ap (λ (t : List ℕ). getD t 0 0) e
 
 -- a number that was read, written again: its bytes
 pub write-read : (n : ℕ) (s : List ℕ) (i : ℕ) → Octets s → i + n ≤ length s → octetsOf n (natAt s i n) ≡ part s i n

@@ -5,7 +5,7 @@ use mathlib.Core.Bool.{Bool, true, false, _&&_, false≢true}
 use native.Mathlib.Omega.{arith}
 use lib.Dec.{eqb, leb}
 use borrow.Author.Tests.{eq-eqb, ne-eqb, le-leb, lt-leb, leb-true}
-use Rattle.octets.specs.Refusal.{refuse_unless_else_, _then_, within, Said, refused, answered, say, left}
+use Rattle.octets.specs.Refusal.{refuse_unless_else_, _then_, within, Said, refused, answered, say, left, numberSaid}
 
 pub pass : (b : Bool) (n next r : ℕ) → b ≡ true → r ≡ next → r ≡ (refuse n unless b else next)
 unfolding refuse_unless_else_
@@ -74,17 +74,12 @@ say-refused (suc n) m a e ne = ap (λ (k : ℕ). say k a) e
 pub say-answered : {A : Type 0} (m : ℕ) (a b : A) → m ≡ 0 → b ≡ a → answered b ≡ say m a
 say-answered {A} m a b e q = ap answered q ∙ ap (λ (k : ℕ). say k a) (sym e)
 
-pub left-refused : {A : Type 0} (n : ℕ) (new old : A) → (n ≡ 0 → ⊥) → left n new old ≡ old
-left-refused zero new old ne = absurd (ne refl)
-left-refused (suc n) new old ne = refl
+pub left-old : {A : Type 0} (n m : ℕ) (new old : A) → n ≡ m → (n ≡ 0 → ⊥) → old ≡ left m new old
+left-old zero m new old e ne = absurd (ne refl)
+left-old (suc n) m new old e ne = ap (λ (k : ℕ). left k new old) e
 
-pub left-done : {A : Type 0} (n : ℕ) (new old : A) → n ≡ 0 → left n new old ≡ new
-left-done n new old e = ap (λ (k : ℕ). left k new old) e
-
--- the number that was said, 0 for an answer
-abbrev pub numberSaid : {A : Type 0} → Said A → ℕ
-numberSaid (refused n) = n
-numberSaid (answered a) = 0
+pub left-new : {A : Type 0} (m : ℕ) (new old x : A) → m ≡ 0 → x ≡ new → x ≡ left m new old
+left-new m new old x e q = q ∙ ap (λ (k : ℕ). left k new old) (sym e)
 
 pub number-say : {A : Type 0} (n : ℕ) (a : A) → numberSaid (say n a) ≡ n
 number-say zero a = refl

@@ -29,11 +29,13 @@ intAt s i n = signed (8 * n) (natAt s i n)
 -- the n bytes of the number x
 abbrev pub octetsOf : ℕ → ℕ → List ℕ
 octetsOf zero x = []
-octetsOf (suc n) x = x / 256 ^ n % 256 ∷ octetsOf n x
+octetsOf (suc zero) x = x % 256 ∷ []
+octetsOf (suc (suc n)) x = x / 256 ^ suc n % 256 ∷ octetsOf (suc n) x
 
 -- the n bits of the number x from bit k up; bit 0 is the lowest
 abbrev pub bitsAt : ℕ → ℕ → ℕ → ℕ
-bitsAt x k n = x / 2 ^ k % 2 ^ n
+bitsAt x zero n = x % 2 ^ n
+bitsAt x (suc k) n = x / 2 ^ suc k % 2 ^ n
 
 -- the n bytes of s from index i on; as many of them as there are
 abbrev pub part : List ℕ → ℕ → ℕ → List ℕ

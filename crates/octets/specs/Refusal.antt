@@ -34,3 +34,8 @@ say (suc n) a = refused (suc n)
 abbrev pub left : {A : Type 0} → ℕ → A → A → A
 left zero new old = new
 left (suc n) new old = old
+
+-- the number that was said, 0 for an answer
+abbrev pub numberSaid : {A : Type 0} → Said A → ℕ
+numberSaid (refused n) = n
+numberSaid (answered a) = 0

@@ -1,0 +1,77 @@
+-- One law of loops that fill a list, at the starts; no start wraps.
+use Prim.Native.Nat.{ℕ, _+_, _-_, _*_, _<_}
+use mathlib.Core.Path.{_≡_, refl, ap}
+use native.Mathlib.Omega.{arith}
+use Rattle.octets.proofs.Fill.{Filled, fill-more, fill-done}
+use Rattle.packet.specs.Bins.{firstBin, binStart, binStarts}
+use Rattle.packet.proofs.bins.bin_starts.Statement.{statement}
+use Rattle.packet.proofs.bins.bin_starts.Tie as tie
+-- One law of loops that fill a list, at the starts; no start wraps.
+
+abbrev Inv-loop : tie.InvT-loop
+Inv-loop hstart first starts₀ j₀ starts j = (first ≡ firstBin hstart) × (first < 65536) × Filled (binStart hstart) starts₀ starts j
+
+abbrev μ-loop : tie.MeasureT-loop
+μ-loop hstart first starts₀ j₀ starts j = 48 - j
+
+first-bin-requires : tie.Need-first-bin-requires Inv-loop μ-loop
+first-bin-requires c κs = omega arith
+
+cast-first : tie.Need-cast-first Inv-loop μ-loop
+cast-first c = omega arith
+
+loop-holds : tie.Need-loop-holds Inv-loop μ-loop
+loop-holds c = (c .first-bin .ensures, omega arith, (omega arith, refl))
+
+add-starts : tie.Need-add-starts Inv-loop μ-loop
+add-starts c = omega arith
+
+mul-starts : tie.Need-mul-starts Inv-loop μ-loop
+mul-starts c = omega arith
+
+cast-starts : tie.Need-cast-starts Inv-loop μ-loop
+cast-starts c = omega arith
+
+mul-starts-2 : tie.Need-mul-starts-2 Inv-loop μ-loop
+mul-starts-2 c = omega arith
+
+array-write-starts : tie.Need-array-write-starts Inv-loop μ-loop
+array-write-starts c = omega arith
+
+add-j : tie.Need-add-j Inv-loop μ-loop
+add-j c = omega arith
+
+loop-less : tie.Need-loop-less Inv-loop μ-loop
+loop-less c = omega arith
+
+loop-again : tie.Need-loop-again Inv-loop μ-loop
+loop-again c =
+    let l = c .before .loop in
+    let h = c .before .before .before .args .hstart in
+    let v = ap (λ (n : ℕ). (n + l .j) * 1536) (l .inv .0) in
+    (l .inv .0, l .inv .1, fill-more (binStart h) _ (l .starts) (l .j) _ (c .loop-test .taken) v (l .inv .2))
+
+returns : tie.Need-returns Inv-loop μ-loop
+unfolding binStarts
+returns c =
+    let l = c .before .loop in
+    fill-done (binStart (c .before .before .before .args .hstart)) _ (l .starts) (l .j) (c .loop-test .left) (l .inv .2)
+
+pub bin-starts-spec : {M : Type 1} → statement M
+bin-starts-spec =
+    tie.close
+    (tie.spec
+    Inv-loop
+    μ-loop
+    first-bin-requires
+    cast-first
+    loop-holds
+    add-starts
+    mul-starts
+    cast-starts
+    mul-starts-2
+    array-write-starts
+    add-j
+    loop-less
+    loop-again
+    returns)

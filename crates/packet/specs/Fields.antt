@@ -1,0 +1,47 @@
+-- Document 01, "Packet layout": the free fields of a packet, by the columns of its table.
+use Prim.Native.Nat.{ℕ}
+use mathlib.Core.List.{List}
+use lib.ListN.{replicate}
+use Rattle.octets.specs.Bytes.{part}
+use Rattle.layout.specs.Column.{number, octetsIn}
+use Rattle.packet.specs.Layout as columns
+use Rattle.packet.specs.Header.{errorStatus, count}
+use Rattle.packet.specs.Bins.{binsOf}
+use Rattle.packet.specs.declared.PacketFields.{PacketFields}
+use Rattle.packet.specs.declared.PacketArrays.{PacketArrays}
+
+-- the fields that are single numbers
+unfoldable pub fieldsOf : List ℕ → PacketFields
+fieldsOf bs = record {
+  «error_status» = errorStatus bs;
+  count = count bs;
+  «coarse_time» = number bs columns.coarseTime;
+  «fine_time» = number bs columns.fineTime;
+  «status_register» = number bs columns.statusRegister;
+  «software_version» = number bs columns.softwareVersion;
+  «ram_flag_word» = number bs columns.ramFlagWord;
+  «status_word_1» = number bs columns.statusWord1;
+  «status_word_2» = number bs columns.statusWord2;
+  «software_checksum» = number bs columns.softwareChecksum;
+  «commands_received» = number bs columns.commandsReceived;
+  «command_errors» = number bs columns.commandErrors;
+  «transmitter_threshold» = number bs columns.transmitterThreshold;
+  «tracking_status» = number bs columns.trackingStatus;
+  hstart = number bs columns.hstart;
+}
+
+-- the fields that are arrays
+unfoldable pub arraysOf : List ℕ → PacketArrays
+arraysOf bs = record {
+  temperatures = octetsIn bs columns.temperatures;
+  readings = octetsIn bs columns.readings;
+  bins = binsOf bs;
+}
+
+-- the arrays of a refusal
+abbrev pub noArrays : PacketArrays
+noArrays = record { temperatures = replicate 16 0; readings = replicate 14 0; bins = replicate 48 0 }
+
+-- the carried bytes, the packet sum among them; as many of the 974 as there are
+abbrev pub carriedOf : List ℕ → List ℕ
+carriedOf bs = part bs (columns.carried .start) (columns.carried .items)

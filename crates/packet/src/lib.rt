@@ -1,0 +1,179 @@
+// The 1,080-byte science packet: its fields and the reader.
+pub mod bins;
+
+ghost use mathlib.Core.Path.{_≡_};
+ghost use Rattle.octets.specs.Refusal.{numberSaid};
+ghost use Rattle.packet.specs.Header.{headerRefusal};
+ghost use Rattle.packet.specs.Fields.{fieldsOf, arraysOf, carriedOf};
+ghost use Rattle.packet.specs.Read.{readRefusal, said, readSaid, readArrays};
+
+// The free fields that are single numbers.
+pub struct PacketFields {
+    pub error_status: u8,
+    pub count: u16,
+    pub coarse_time: u32,
+    pub fine_time: u8,
+    pub status_register: u8,
+    pub software_version: u8,
+    pub ram_flag_word: u16,
+    pub status_word_1: u16,
+    pub status_word_2: u16,
+    pub software_checksum: u16,
+    pub commands_received: u8,
+    pub command_errors: u8,
+    pub transmitter_threshold: u8,
+    pub tracking_status: u8,
+    pub hstart: u16,
+}
+
+// The free fields that are arrays; the bins in bin order.
+pub struct PacketArrays {
+    pub temperatures: [u8; 16],
+    pub readings: [u8; 14],
+    pub bins: [u8; 48],
+}
+
+// A refusal with its number, or the fields of an accepted packet.
+pub enum PacketAnswer {
+    Refused(u8),
+    Accepted(PacketFields),
+}
+
+// The reader's answer, and beside it the arrays, which are all zeros on a refusal.
+pub struct PacketRead {
+    pub answer: PacketAnswer,
+    pub arrays: PacketArrays,
+}
+
+// Refusals 3 to 8, or 0.
+fn header_refusal(bytes: &[u8]) -> u8
+    ensures { λ r. ⌜ r ≡ headerRefusal (now (bytes .entry)) ⌝ }
+{
+    let id = octets::u16_at(bytes, 0);
+    if (id >> 13) % 8 != 0 {
+        return 3;
+    }
+    if (id >> 12) % 2 != 0 {
+        return 4;
+    }
+    if (id >> 11) % 2 != 0 {
+        return 5;
+    }
+    if id % 256 != 35 {
+        return 6;
+    }
+    if (octets::u16_at(bytes, 2) >> 14) % 4 != 3 {
+        return 7;
+    }
+    if octets::u16_at(bytes, 4) != 1073 {
+        return 8;
+    }
+    0
+}
+
+// Refusals 1 to 10, or 0.
+fn refusal(bytes: &[u8], sum_word: usize) -> u8
+    ensures { λ r. ⌜ r ≡ readRefusal (now (bytes .entry)) «sum_word» ⌝ }
+{
+    if bytes.len() != 1080 {
+        return 1;
+    }
+    if sum_word < 53 {
+        return 2;
+    }
+    if 539 < sum_word {
+        return 2;
+    }
+    let header = header_refusal(bytes);
+    if header != 0 {
+        return header;
+    }
+    if octets::u8_at(bytes, 11) != 0 {
+        return 9;
+    }
+    if checksum::packet_sum(bytes, sum_word) != octets::u16_at(bytes, sum_word * 2) {
+        return 10;
+    }
+    0
+}
+
+fn read_fields(bytes: &[u8]) -> PacketFields
+    ensures { λ r. ⌜ r ≡ fieldsOf (now (bytes .entry)) ⌝ }
+{
+    PacketFields {
+        error_status: ((octets::u16_at(bytes, 0) >> 8) % 8) as u8,
+        count: octets::u16_at(bytes, 2) % 16384,
+        coarse_time: octets::u32_at(bytes, 6),
+        fine_time: octets::u8_at(bytes, 10),
+        status_register: octets::u8_at(bytes, 42),
+        software_version: octets::u8_at(bytes, 43),
+        ram_flag_word: octets::u16_at(bytes, 44),
+        status_word_1: octets::u16_at(bytes, 46),
+        status_word_2: octets::u16_at(bytes, 48),
+        software_checksum: octets::u16_at(bytes, 50),
+        commands_received: octets::u8_at(bytes, 52),
+        command_errors: octets::u8_at(bytes, 53),
+        transmitter_threshold: octets::u8_at(bytes, 54),
+        tracking_status: octets::u8_at(bytes, 55),
+        hstart: octets::u16_at(bytes, 104),
+    }
+}
+
+fn read_arrays(bytes: &[u8]) -> PacketArrays
+    ensures { λ r. ⌜ r ≡ arraysOf (now (bytes .entry)) ⌝ }
+{
+    let mut temperatures = [0u8; 16];
+    octets::read_into(bytes, 12, &mut temperatures);
+    let mut readings = [0u8; 14];
+    octets::read_into(bytes, 28, &mut readings);
+    PacketArrays {
+        temperatures,
+        readings,
+        bins: bins::read_bins(bytes),
+    }
+}
+
+// Reads a packet whose sum stands at word sum_word. Any bytes, any word.
+pub fn read_packet(bytes: &[u8], sum_word: usize) -> PacketRead
+    ensures { λ r. ⌜ (said (r .answer) ≡ readSaid (now (bytes .entry)) «sum_word») × (r .arrays ≡ readArrays (now (bytes .entry)) «sum_word») ⌝ }
+{
+    let n = refusal(bytes, sum_word);
+    if n != 0 {
+        return PacketRead {
+            answer: PacketAnswer::Refused(n),
+            arrays: PacketArrays {
+                temperatures: [0; 16],
+                readings: [0; 14],
+                bins: [0; 48],
+            },
+        };
+    }
+    PacketRead {
+        answer: PacketAnswer::Accepted(read_fields(bytes)),
+        arrays: read_arrays(bytes),
+    }
+}
+
+// The refusal's number, or 0 for an accepted packet.
+pub fn refusal_number(answer: PacketAnswer) -> u8
+    ensures { λ r. ⌜ r ≡ numberSaid (said answer) ⌝ }
+{
+    match answer {
+        PacketAnswer::Refused(n) => n,
+        PacketAnswer::Accepted(_) => 0,
+    }
+}
+
+// The carried bytes of a packet, as a part of its own slice.
+pub fn carried(bytes: &[u8]) -> &[u8]
+    ensures { λ r. ⌜ now r ≡ carriedOf (now (bytes .entry)) ⌝ }
+{
+    let n = bytes.len();
+    if n < 106 {
+        return &bytes[n..];
+    }
+    if n < 1080 {
+        return &bytes[106..];
+    }
+    &bytes[106..1080]
+}
