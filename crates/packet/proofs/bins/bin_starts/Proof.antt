@@ -6,6 +6,7 @@ use Rattle.octets.proofs.Fill.{Filled, fill-more, fill-done}
 use Rattle.packet.specs.Bins.{firstBin, binStart, binStarts}
 use Rattle.packet.proofs.bins.bin_starts.Statement.{statement}
 use Rattle.packet.proofs.bins.bin_starts.Tie as tie
+
 -- One law of loops that fill a list, at the starts; no start wraps.
 
 abbrev Inv-loop : tie.InvT-loop

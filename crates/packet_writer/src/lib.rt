@@ -1,0 +1,165 @@
+// The writer of the 1,080-byte science packet.
+use packet::PacketArrays;
+use packet::PacketFields;
+ghost use mathlib.Core.Path.{_≡_};
+ghost use Prim.Native.Nat.{_-_, _≤_, _<_};
+ghost use lib.ListN.{length};
+ghost use Rattle.octets.specs.Bytes.{octetsOf};
+ghost use Rattle.octets.specs.Refusal.{say, left};
+ghost use Rattle.layout.specs.Column.{join};
+ghost use Rattle.packet.specs.Bins.{binByte};
+ghost use Rattle.packet_writer.specs.Write.{headParts, statusParts, histogramOf, unsummed, packetOf, writeRefusal, saidWritten};
+
+// A refusal with its number, or the packet is in the output.
+pub enum PacketWritten {
+    Refused(u8),
+    Written,
+}
+
+// Refusals 2, 17 and 18, or 0.
+fn refusal(fields: PacketFields, carried: &[u8], sum_word: usize, out: &[u8]) -> u8
+    ensures { λ r. ⌜ r ≡ writeRefusal fields (now (carried .entry)) «sum_word» (now (out .entry)) ⌝ }
+{
+    if sum_word < 53 {
+        return 2;
+    }
+    if 539 < sum_word {
+        return 2;
+    }
+    if 16383 < fields.count {
+        return 17;
+    }
+    if 7 < fields.error_status {
+        return 17;
+    }
+    if carried.len() != 974 {
+        return 17;
+    }
+    if out.len() != 1080 {
+        return 18;
+    }
+    0
+}
+
+// The two bytes of a word.
+fn word_bytes(x: u16) -> [u8; 2]
+    ensures { λ r. ⌜ r ≡ octetsOf 2 x ⌝ }
+{
+    [(x / 256 % 256) as u8, (x % 256) as u8]
+}
+
+// Bytes 0 to 11.
+fn head_bytes(f: PacketFields) -> [u8; 12]
+    requires { ⌜ f .count ≤ 16383 ⌝ }
+    ensures { λ r. ⌜ r ≡ join (headParts f) ⌝ }
+{
+    let id = (f.error_status as u16) * 256 + 35;
+    let sequence = 49152 + f.count;
+    [
+        (id / 256 % 256) as u8,
+        (id % 256) as u8,
+        (sequence / 256 % 256) as u8,
+        (sequence % 256) as u8,
+        4,
+        49,
+        (f.coarse_time / 16777216 % 256) as u8,
+        (f.coarse_time / 65536 % 256) as u8,
+        (f.coarse_time / 256 % 256) as u8,
+        (f.coarse_time % 256) as u8,
+        f.fine_time,
+        0,
+    ]
+}
+
+// Bytes 42 to 55.
+fn status_bytes(f: PacketFields) -> [u8; 14]
+    ensures { λ r. ⌜ r ≡ join (statusParts f) ⌝ }
+{
+    [
+        f.status_register,
+        f.software_version,
+        (f.ram_flag_word / 256 % 256) as u8,
+        (f.ram_flag_word % 256) as u8,
+        (f.status_word_1 / 256 % 256) as u8,
+        (f.status_word_1 % 256) as u8,
+        (f.status_word_2 / 256 % 256) as u8,
+        (f.status_word_2 % 256) as u8,
+        (f.software_checksum / 256 % 256) as u8,
+        (f.software_checksum % 256) as u8,
+        f.commands_received,
+        f.command_errors,
+        f.transmitter_threshold,
+        f.tracking_status,
+    ]
+}
+
+// The place from byte 56 of the bin whose bytes are swapped to place k: the other place of k's pair.
+fn partner(k: usize) -> usize
+    requires { ⌜ k < 48 ⌝ }
+    ensures { λ r. ⌜ (r ≡ binByte k - 56) × (r < 48) ⌝ }
+{
+    if k % 2 == 0 { k + 1 } else { k - 1 }
+}
+
+// Bytes 56 to 103.
+fn histogram_bytes(bins: [u8; 48]) -> [u8; 48]
+    ensures { λ r. ⌜ r ≡ histogramOf bins ⌝ }
+{
+    let mut bytes = [0u8; 48];
+    let mut k = 0;
+    while k < 48 {
+        bytes[k] = bins[partner(k)];
+        k = k + 1;
+    }
+    bytes
+}
+
+// All bytes of the packet, the carried ones as they came at the sum's word.
+fn write_unsummed(
+    f: PacketFields,
+    temperatures: [u8; 16],
+    readings: [u8; 14],
+    bins: [u8; 48],
+    carried: &[u8],
+    out: &mut [u8],
+)
+    requires { ⌜ (f .count ≤ 16383) × (length (now carried) ≡ 974) × (length (now out) ≡ 1080) ⌝ }
+    ensures { λ _. ⌜ now (out .exit) ≡ unsummed f (record { temperatures = temperatures; readings = readings; bins = bins }) (now (carried .entry)) ⌝ }
+{
+    let head = head_bytes(f);
+    let status = status_bytes(f);
+    let histogram = histogram_bytes(bins);
+    let hstart = word_bytes(f.hstart);
+    octets::write_into(&head, 0, out);
+    octets::write_into(&temperatures, 12, out);
+    octets::write_into(&readings, 28, out);
+    octets::write_into(&status, 42, out);
+    octets::write_into(&histogram, 56, out);
+    octets::write_into(&hstart, 104, out);
+    octets::write_into(carried, 106, out);
+}
+
+// Writes a packet whose sum stands at word sum_word. Any fields, any carried bytes, any word, any output; on a refusal the output stays.
+pub fn write_packet(
+    fields: PacketFields,
+    arrays: PacketArrays,
+    carried: &[u8],
+    sum_word: usize,
+    out: &mut [u8],
+) -> PacketWritten
+    ensures { λ r. ⌜ (saidWritten r ≡ say (writeRefusal fields (now (carried .entry)) «sum_word» (now (out .entry))) tt)
+        × (now (out .exit) ≡ left (writeRefusal fields (now (carried .entry)) «sum_word» (now (out .entry)))
+        (packetOf fields arrays (now (carried .entry)) «sum_word») (now (out .entry))) ⌝ }
+{
+    let n = refusal(fields, carried, sum_word, out);
+    if n != 0 {
+        return PacketWritten::Refused(n);
+    }
+    let temperatures = arrays.temperatures;
+    let readings = arrays.readings;
+    let bins = arrays.bins;
+    write_unsummed(fields, temperatures, readings, bins, carried, out);
+    let sum = word_bytes(checksum::packet_sum(out, sum_word));
+    octets::write_into(&sum, sum_word * 2, out);
+    PacketWritten::Written
+}
