@@ -80,3 +80,8 @@ join-length [] [] a b t done = omega (arith, eqb-true a b t)
 join-length (p ∷ ps) (c ∷ cs) a b t (l ▹ f) =
     let q = first c cs a b t in
     omega (arith, length-append p (join ps), l, join-length ps cs (a + size c) b (q .1) f)
+
+-- parts joined in two steps
+pub join-append : (ps qs : List (List ℕ)) → join (ps ++ qs) ≡ join ps ++ join qs
+join-append [] qs = refl
+join-append (p ∷ ps) qs = ap (λ (s : List ℕ). p ++ s) (join-append ps qs) ∙ sym (append-assoc p (join ps) (join qs))

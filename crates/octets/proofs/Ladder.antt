@@ -68,19 +68,35 @@ passed false n next e = absurd (omega arith)
 
 -- what is said, and what is left, by the ladder's number
 pub say-refused : {A : Type 0} (n m : ℕ) (a : A) → n ≡ m → (n ≡ 0 → ⊥) → refused n ≡ say m a
+unfolding say
 say-refused zero m a e ne = absurd (ne refl)
 say-refused (suc n) m a e ne = ap (λ (k : ℕ). say k a) e
 
 pub say-answered : {A : Type 0} (m : ℕ) (a b : A) → m ≡ 0 → b ≡ a → answered b ≡ say m a
+unfolding say
 say-answered {A} m a b e q = ap answered q ∙ ap (λ (k : ℕ). say k a) (sym e)
 
+-- and back: an answer was said on 0, a refusal on its number
+pub answer-said : {A : Type 0} (m : ℕ) (a b : A) → answered b ≡ say m a → (m ≡ 0) × (b ≡ a)
+unfolding say
+answer-said zero a b e = (refl, cc)
+answer-said (suc m) a b e = let z : _≡_ {A = ℕ} 0 1 = cc in absurd (omega arith)
+
+pub refusal-said : {A : Type 0} (n m : ℕ) (a : A) → refused n ≡ say m a → (n ≡ m) × (m ≡ 0 → ⊥)
+unfolding say
+refusal-said n zero a e = let z : _≡_ {A = ℕ} 0 1 = cc in absurd (omega arith)
+refusal-said n (suc m) a e = (cc, λ z. omega arith)
+
 pub left-old : {A : Type 0} (n m : ℕ) (new old : A) → n ≡ m → (n ≡ 0 → ⊥) → old ≡ left m new old
+unfolding left
 left-old zero m new old e ne = absurd (ne refl)
 left-old (suc n) m new old e ne = ap (λ (k : ℕ). left k new old) e
 
 pub left-new : {A : Type 0} (m : ℕ) (new old x : A) → m ≡ 0 → x ≡ new → x ≡ left m new old
+unfolding left
 left-new m new old x e q = q ∙ ap (λ (k : ℕ). left k new old) (sym e)
 
 pub number-say : {A : Type 0} (n : ℕ) (a : A) → numberSaid (say n a) ≡ n
+unfolding say
 number-say zero a = refl
 number-say (suc n) a = refl

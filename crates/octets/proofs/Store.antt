@@ -6,9 +6,10 @@ use native.Mathlib.Nat.{add-zero, add-suc, suc-add}
 use native.Mathlib.Numerals.{add-one}
 use native.Mathlib.Decide.{decLe}
 use native.Mathlib.Omega.{arith}
-use lib.ListN.{length, getD, set, take, drop, length-set, length-append, drop-of-length-le}
-use lib.Seq.{sets, sets-eq, set-out, length-sets, take-suc, take-all, length-take-le, take-at, drop-at}
-use Rattle.octets.specs.Bytes.{put}
+use lib.ListN.{length, getD, set, take, drop, length-set, length-append, drop-of-length-le, take-append-drop}
+use lib.Seq.{sets, sets-eq, set-out, length-sets, take-suc, take-all, length-take-le, take-at, drop-at, drop-drop}
+use Rattle.octets.specs.Bytes.{part, put}
+use Rattle.octets.proofs.Codec.{part-length}
 
 -- where the bytes have room: those before, the bytes, those after
 pub put-splice : (s b : List ℕ) (i : ℕ) → i + length b ≤ length s → put s i b ≡ take i s ++ (b ++ drop (i + length b) s)
@@ -50,6 +51,36 @@ put-over s a b i h e =
     put-splice (put s i a) b i (omega arith)
     ∙ (λ k. t k ++ (b ++ d k))
     ∙ sym (put-splice s b i (omega arith))
+
+-- what was stored is there
+pub put-there : (s b : List ℕ) (i : ℕ) → i + length b ≤ length s → part (put s i b) i (length b) ≡ b
+put-there s b i h =
+    let n : length (take i s) ≡ i = length-take-le i s (omega arith) in
+    let r : List ℕ = drop (i + length b) s in
+    ap (λ (l : List ℕ). part l i (length b)) (put-splice s b i h)
+    ∙ ap (take (length b)) (drop-at (take i s) (b ++ r) i n) ∙ take-at b r (length b) refl
+
+-- bytes stored where they stand
+pub put-same : (s : List ℕ) (i n : ℕ) → i + n ≤ length s → put s i (part s i n) ≡ s
+put-same s i n h =
+    let l : length (part s i n) ≡ n = part-length s i n h in
+    let d : drop (i + length (part s i n)) s ≡ drop n (drop i s) = ap (λ (k : ℕ). drop (i + k) s) l ∙ sym (drop-drop n i s) in
+    put-splice s (part s i n) i (omega arith)
+    ∙ ap (λ (r : List ℕ). take i s ++ (part s i n ++ r)) d
+    ∙ ap (λ (r : List ℕ). take i s ++ r) (take-append-drop n (drop i s)) ∙ take-append-drop i s
+
+-- bytes stored behind the first ones
+put-tail : (b s : List ℕ) (x k : ℕ) → put (x ∷ s) (suc k) b ≡ x ∷ put s k b
+unfolding put
+put-tail [] s x k = refl
+put-tail (v ∷ b) s x k = put-tail b (set s k v) x (suc k)
+
+pub put-behind : (a s b : List ℕ) (i k : ℕ) → k ≡ length a + i → put (a ++ s) k b ≡ a ++ put s i b
+put-behind [] s b i k e = ap (λ (j : ℕ). put s j b) (omega arith)
+put-behind (x ∷ a) s b i k e =
+    let j : ℕ = length a + i in
+    ap (λ (n : ℕ). put (x ∷ (a ++ s)) n b) (omega arith) ∙ put-tail b (a ++ s) x j
+    ∙ ap (λ (l : List ℕ). x ∷ l) (put-behind a s b i j refl)
 
 -- nothing is stored past the end
 pub put-past : (b s : List ℕ) (i : ℕ) → length s ≤ i → put s i b ≡ s

@@ -26,12 +26,12 @@ pub data Said (A : Type 0) : Type 0 where
   answered : A → Said A
 
 -- what is said by a ladder's number
-abbrev pub say : {A : Type 0} → ℕ → A → Said A
+unfoldable pub say : {A : Type 0} → ℕ → A → Said A
 say zero a = answered a
 say (suc n) a = refused (suc n)
 
 -- what stands afterwards, by a ladder's number: what the work leaves, or what stood before
-abbrev pub left : {A : Type 0} → ℕ → A → A → A
+unfoldable pub left : {A : Type 0} → ℕ → A → A → A
 left zero new old = new
 left (suc n) new old = old
 

@@ -1,0 +1,62 @@
+-- An accepted packet meets the conditions of refusals 1 to 10, and a packet that meets them is accepted.
+use Prim.Native.Nat.{ℕ, _≤_}
+use mathlib.Core.Path.{_≡_, sym}
+use mathlib.Core.List.{List}
+use lib.ListN.{length}
+use borrow.Author.Tests.{eqb-true}
+use Rattle.octets.proofs.Ladder.{passed, pass-eq, pass-within, then-pass, then-zero, within-true}
+use Rattle.layout.specs.Column.{number}
+use Rattle.checksum.specs.Sum.{packetSum, wordAt}
+use Rattle.packet.specs.Layout.{packetLength, packetType}
+use Rattle.packet.specs.Header.{version, spare, flag, instrument, segmentation, headerRefusal}
+use Rattle.packet.specs.Read.{readRefusal}
+
+pub record Accepted (bs : List ℕ) (w : ℕ) : Type 0 where
+  pub size : length bs ≡ 1080
+  pub from : 53 ≤ w
+  pub to : w ≤ 539
+  pub version-is : version bs ≡ 0
+  pub spare-is : spare bs ≡ 0
+  pub flag-is : flag bs ≡ 0
+  pub instrument-is : instrument bs ≡ 35
+  pub segmentation-is : segmentation bs ≡ 3
+  pub length-is : number bs packetLength ≡ 1073
+  pub type-is : number bs packetType ≡ 0
+  pub sum-is : packetSum bs w ≡ wordAt bs w
+
+pub accepted : (bs : List ℕ) (w : ℕ) → readRefusal bs w ≡ 0 → Accepted bs w
+unfolding readRefusal headerRefusal
+accepted bs w e =
+    let c1 = passed _ 0 _ e in
+    let c2 = passed _ 1 _ (c1 .1) in
+    let h = then-zero _ _ (c2 .1) in
+    let c3 = passed _ 2 _ (h .0) in
+    let c4 = passed _ 3 _ (c3 .1) in
+    let c5 = passed _ 4 _ (c4 .1) in
+    let c6 = passed _ 5 _ (c5 .1) in
+    let c7 = passed _ 6 _ (c6 .1) in
+    let c8 = passed _ 7 _ (c7 .1) in
+    let c9 = passed _ 8 _ (h .1) in
+    let c10 = passed _ 9 _ (c9 .1) in
+    let r = within-true 53 539 w (c2 .0) in
+    record {
+      size = eqb-true _ _ (c1 .0);
+      from = r .0;
+      to = r .1;
+      version-is = eqb-true _ _ (c3 .0);
+      spare-is = eqb-true _ _ (c4 .0);
+      flag-is = eqb-true _ _ (c5 .0);
+      instrument-is = eqb-true _ _ (c6 .0);
+      segmentation-is = eqb-true _ _ (c7 .0);
+      length-is = eqb-true _ _ (c8 .0);
+      type-is = eqb-true _ _ (c9 .0);
+      sum-is = eqb-true _ _ (c10 .0);
+    }
+
+header-passed : (bs : List ℕ) (w : ℕ) → Accepted bs w → 0 ≡ headerRefusal bs
+unfolding headerRefusal
+header-passed bs w a = search pass-eq depth 8
+
+pub accepts : (bs : List ℕ) (w : ℕ) → Accepted bs w → 0 ≡ readRefusal bs w
+unfolding readRefusal
+accepts bs w a = let h = sym (header-passed bs w a) in search (pass-eq, pass-within, then-pass) depth 8

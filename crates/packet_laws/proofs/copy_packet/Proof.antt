@@ -1,0 +1,74 @@
+-- The reader refuses, or the writer is given what was read.
+use mathlib.Core.Path.{_≡_, ap, sym, refl, _∙_}
+use Prim.Native.Nat.{ℕ}
+use mathlib.Core.List.{List}
+use denote.Ref.{now}
+use native.Mathlib.Omega.{arith}
+use Rattle.octets.specs.Bytes.{Octets}
+use Rattle.octets.specs.Refusal.{numberSaid, say}
+use Rattle.octets.proofs.Ladder.{say-refused, left-old, left-new, number-say, answer-said, refusal-said}
+use Rattle.packet.specs.Fields.{fieldsOf, arraysOf, noArrays}
+use Rattle.packet.specs.Read.{said}
+use Rattle.packet_laws.proofs.WriteBack.{copy-refused, copy-number, copy-bytes}
+use borrow.Author.Needs.{needs}
+use Rattle.packet_laws.proofs.copy_packet.Statement.{statement}
+use Rattle.packet_laws.proofs.copy_packet.Tie as tie
+
+read-packet-requires : tie.Need-read-packet-requires
+read-packet-requires c κs = search needs
+
+enum-known-answer : tie.Need-enum-known-answer
+enum-known-answer c = search needs
+
+enum-told : tie.Need-enum-told
+enum-told c = search needs
+
+refusal-number-requires : tie.Need-refusal-number-requires
+refusal-number-requires c κs = search needs
+
+returns : tie.Need-returns
+returns c =
+    let a = c .before .before .before .before .before .before .args in
+    let bs : List ℕ = now (a .bytes) in
+    let p = c .before .before .before .read-packet .ensures in
+    let q = refusal-said _ _ (fieldsOf bs) (sym (ap said (c .before .enum-told .given .1)) ∙ p .0) in
+    let r = c .refusal-number .ensures ∙ ap numberSaid (p .0) ∙ number-say _ (fieldsOf bs) in
+    let e = copy-refused bs (a .sum-word) (now (a .out)) _ r (λ z. q .1 (sym r ∙ z)) in
+    (say-refused _ _ tt e (λ z. q .1 (sym r ∙ z)), left-old _ _ bs (now (a .out)) e (λ z. q .1 (sym r ∙ z)))
+
+carried-requires : tie.Need-carried-requires
+carried-requires c κs = search needs
+
+write-packet-requires : tie.Need-write-packet-requires
+write-packet-requires c κs = search needs
+
+same-length : tie.Need-same-length
+same-length c = search needs
+
+returns-2 : tie.Need-returns-2
+returns-2 c =
+    let s = c .before .before .before .before .before .before .before .before .before .before .before .before in
+    let a = s .args in
+    let bs : List ℕ = now (a .bytes) in
+    let p = c .before .before .before .before .before .before .before .before .before .read-packet .ensures in
+    let q = answer-said _ (fieldsOf bs) _ (sym (ap said (c .before .before .before .before .before .before .before .answer .given .1)) ∙ p .0) in
+    let eb = p .1 ∙ sym (left-new _ (arraysOf bs) noArrays (arraysOf bs) (q .0) refl) in
+    let o : Octets bs = λ i. c .before .before .before .before .before .before .before .before .before .before .before .shared-slice-known .given i .fits in
+    let n = copy-number bs (a .sum-word) (now (a .out)) o (q .0) _ _ _ (q .1) eb (c .before .before .before .before .carried .ensures) in
+    let l = copy-bytes bs (a .sum-word) (now (a .out)) o (q .0) _ _ _ (q .1) eb (c .before .before .before .before .carried .ensures) in
+    let w = c .before .before .write-packet .ensures in
+    (w .0 ∙ ap (λ (k : ℕ). say k tt) n, w .1 ∙ l)
+
+pub copy-packet-spec : {M : Type 1} → statement M
+copy-packet-spec =
+    tie.close
+    (tie.spec
+    read-packet-requires
+    enum-known-answer
+    enum-told
+    refusal-number-requires
+    returns
+    carried-requires
+    write-packet-requires
+    same-length
+    returns-2)

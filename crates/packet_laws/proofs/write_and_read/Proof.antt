@@ -1,0 +1,82 @@
+-- The writer refuses, or the reader is given what was written.
+use mathlib.Core.Path.{_≡_, ap, sym, refl, _∙_}
+use Prim.Native.Nat.{ℕ}
+use mathlib.Core.List.{List}
+use denote.Ref.{now}
+use Rattle.octets.proofs.Ladder.{say-refused, say-answered, left-old, left-new, answer-said, refusal-said}
+use Rattle.packet.specs.Fields.{noArrays}
+use Rattle.packet.specs.Read.{readSaid, readArrays}
+use Rattle.packet_writer.specs.Write.{packetOf, saidWritten}
+use Rattle.packet_laws.specs.RoundTrip.{Typed}
+use Rattle.packet_laws.proofs.ReadBack.{read-back}
+use borrow.Author.Needs.{needs}
+use Rattle.packet_laws.proofs.write_and_read.Statement.{statement}
+use Rattle.packet_laws.proofs.write_and_read.Tie as tie
+
+write-packet-requires : tie.Need-write-packet-requires
+write-packet-requires c κs = search needs
+
+enum-known-written : tie.Need-enum-known-written
+enum-known-written c = search needs
+
+same-length : tie.Need-same-length
+same-length c = search needs
+
+returns : tie.Need-returns
+returns c =
+    let a = c .before .before .before .before .before .before .before .before .before .args in
+    let w = c .before .before .before .before .before .write-packet .ensures in
+    let q = refusal-said _ _ tt (sym (ap saidWritten (c .before .written .given .1)) ∙ w .0) in
+    (say-refused _ _ (a .fields) (q .0) (λ z. q .1 (sym (q .0) ∙ z)), left-old _ _ (a .arrays) noArrays (q .0) (λ z. q .1 (sym (q .0) ∙ z)), w .1)
+
+enum-told : tie.Need-enum-told
+enum-told c = search needs
+
+read-packet-requires : tie.Need-read-packet-requires
+read-packet-requires c κs = search needs
+
+same-length-2 : tie.Need-same-length-2
+same-length-2 c = search needs
+
+-- the bounds of the types
+typed : (s : tie.Start) → Typed (s .args .fields) (s .args .arrays)
+typed s = record {
+  count-fits = search needs;
+  time-fits = search needs;
+  flags-fit = search needs;
+  word1-fits = search needs;
+  word2-fits = search needs;
+  checksum-fits = search needs;
+  hstart-fits = search needs;
+  temperatures-count = search needs;
+  readings-count = search needs;
+  bins-count = search needs;
+}
+
+returns-2 : tie.Need-returns-2
+returns-2 c =
+    let s = c .before .before .before .before .before .before .before .before .before .before in
+    let a = s .args in
+    let w = c .before .before .before .before .before .before .write-packet .ensures in
+    let q = answer-said _ tt _ (sym (ap saidWritten (c .before .before .enum-told .given .1)) ∙ w .0) in
+    let p : List ℕ = packetOf (a .fields) (a .arrays) (now (a .carried)) (a .sum-word) in
+    let e = w .1 ∙ sym (left-new _ p (now (a .out)) p (q .0) refl) in
+    let t = read-back (a .fields) (a .arrays) (now (a .carried)) (a .sum-word) (now (a .out)) (typed s) (q .0) in
+    let r = c .read-packet .ensures in (
+      r .0 ∙ ap (λ (l : List ℕ). readSaid l (a .sum-word)) e ∙ t .0 ∙ say-answered _ (a .fields) (a .fields) (q .0) refl,
+      r .1 ∙ ap (λ (l : List ℕ). readArrays l (a .sum-word)) e ∙ t .1 ∙ left-new _ (a .arrays) noArrays (a .arrays) (q .0) refl,
+      w .1,
+    )
+
+pub write-and-read-spec : {M : Type 1} → statement M
+write-and-read-spec =
+    tie.close
+    (tie.spec
+    write-packet-requires
+    enum-known-written
+    same-length
+    returns
+    enum-told
+    read-packet-requires
+    same-length-2
+    returns-2)

@@ -1,0 +1,53 @@
+-- Demand 2: writing an accepted science packet's fields gives its bytes back, and reading what was written gives the fields back, the sum's
+-- own two bytes aside.
+use Prim.Native.Nat.{ℕ, _-_, _*_, _^_, _<_}
+use mathlib.Core.Path.{_≡_}
+use mathlib.Core.List.{List}
+use lib.Dec.{eqb}
+use lib.ListN.{length}
+use Rattle.octets.specs.Bytes.{octetsOf, put, Octets}
+use Rattle.octets.specs.Refusal.{refuse_unless_else_, _then_, answered}
+use Rattle.layout.specs.Column.{holders}
+use Rattle.checksum.specs.Sum.{packetSum}
+use Rattle.packet.specs.Layout.{packetColumns}
+use Rattle.packet.specs.Fields.{fieldsOf, arraysOf, carriedOf}
+use Rattle.packet.specs.Read.{readRefusal, readSaid, readArrays}
+use Rattle.packet.specs.declared.PacketFields.{PacketFields}
+use Rattle.packet.specs.declared.PacketArrays.{PacketArrays}
+use Rattle.packet_writer.specs.Write.{packetOf, writeRefusal}
+
+-- the packet's table holds each of the 1,080 bytes once
+abbrev pub Covers : Type 0
+Covers = (k : ℕ) → k < 1080 → holders k packetColumns ≡ 1
+
+-- what the types of the fields and arrays say of their values
+pub record Typed (f : PacketFields) (a : PacketArrays) : Type 0 where
+  pub count-fits : f .count < 2 ^ 16
+  pub time-fits : f .«coarse_time» < 2 ^ 32
+  pub flags-fit : f .«ram_flag_word» < 2 ^ 16
+  pub word1-fits : f .«status_word_1» < 2 ^ 16
+  pub word2-fits : f .«status_word_2» < 2 ^ 16
+  pub checksum-fits : f .«software_checksum» < 2 ^ 16
+  pub hstart-fits : f .hstart < 2 ^ 16
+  pub temperatures-count : length (a .temperatures) ≡ 16
+  pub readings-count : length (a .readings) ≡ 14
+  pub bins-count : length (a .bins) ≡ 48
+
+-- reading what was written gives the fields and arrays back, and the carried bytes with the sum at its word
+abbrev pub ReadsBack : Type 0
+ReadsBack =
+    (f : PacketFields) (a : PacketArrays) (x : List ℕ) (w : ℕ) (out : List ℕ) → Typed f a → writeRefusal f x w out ≡ 0
+    → (readSaid (packetOf f a x w) w ≡ answered f)
+    × (readArrays (packetOf f a x w) w ≡ a)
+    × (carriedOf (packetOf f a x w) ≡ put x (w * 2 - 106) (octetsOf 2 (packetSum (packetOf f a x w) w)))
+
+-- writing an accepted packet's fields, arrays and carried bytes is not refused, and gives its bytes back
+abbrev pub WritesBack : Type 0
+WritesBack =
+    (bs : List ℕ) (w : ℕ) (out : List ℕ) → Octets bs → readRefusal bs w ≡ 0 → length out ≡ 1080
+    → (writeRefusal (fieldsOf bs) (carriedOf bs) w out ≡ 0)
+    × (packetOf (fieldsOf bs) (arraysOf bs) (carriedOf bs) w ≡ bs)
+
+-- reading and writing again: the reader's refusals, then 18 for an output that is not 1,080 bytes
+unfoldable pub copyRefusal : List ℕ → ℕ → List ℕ → ℕ
+copyRefusal bs w out = readRefusal bs w then refuse 18 unless eqb (length out) 1080 else 0

@@ -1,0 +1,69 @@
+// The packet's theorems: its table covers every byte, and its two round trips, of the definitions and of the code.
+use packet::PacketAnswer;
+use packet::PacketArrays;
+use packet::PacketFields;
+use packet::PacketRead;
+use packet_writer::PacketWritten;
+ghost use mathlib.Core.Path.{_≡_};
+ghost use Rattle.octets.specs.Refusal.{say, left};
+ghost use Rattle.packet.specs.Fields.{noArrays};
+ghost use Rattle.packet.specs.Read.{said};
+ghost use Rattle.packet_writer.specs.Write.{packetOf, writeRefusal, saidWritten};
+ghost use Rattle.packet_laws.specs.RoundTrip.{Covers, ReadsBack, WritesBack, copyRefusal};
+
+// Each byte of the packet stands in exactly one column of its table.
+pub fn layout_covers()
+    ensures { λ _. ⌜ Covers ⌝ }
+{}
+
+// Reading what was written gives the fields back.
+pub fn reads_back()
+    ensures { λ _. ⌜ ReadsBack ⌝ }
+{}
+
+// Writing what was read gives the bytes back.
+pub fn writes_back()
+    ensures { λ _. ⌜ WritesBack ⌝ }
+{}
+
+// Reads a packet and writes it again: an accepted packet's own bytes stand in the output.
+pub fn copy_packet(bytes: &[u8], sum_word: usize, out: &mut [u8]) -> PacketWritten
+    ensures { λ r. ⌜ (saidWritten r ≡ say (copyRefusal (now (bytes .entry)) «sum_word» (now (out .entry))) tt)
+        × (now (out .exit) ≡ left (copyRefusal (now (bytes .entry)) «sum_word» (now (out .entry))) (now (bytes .entry)) (now (out .entry))) ⌝ }
+{
+    let read = packet::read_packet(bytes, sum_word);
+    let answer = read.answer;
+    let PacketAnswer::Accepted(fields) = answer else {
+        return PacketWritten::Refused(packet::refusal_number(answer));
+    };
+    let arrays = read.arrays;
+    let carried = packet::carried(bytes);
+    packet_writer::write_packet(fields, arrays, carried, sum_word, out)
+}
+
+// Writes a packet and reads it again: the fields and arrays that were given, or the writer's refusal.
+pub fn write_and_read(
+    fields: PacketFields,
+    arrays: PacketArrays,
+    carried: &[u8],
+    sum_word: usize,
+    out: &mut [u8],
+) -> PacketRead
+    ensures { λ r. ⌜ (said (r .answer) ≡ say (writeRefusal fields (now (carried .entry)) «sum_word» (now (out .entry))) fields)
+        × (r .arrays ≡ left (writeRefusal fields (now (carried .entry)) «sum_word» (now (out .entry))) arrays noArrays)
+        × (now (out .exit) ≡ left (writeRefusal fields (now (carried .entry)) «sum_word» (now (out .entry)))
+        (packetOf fields arrays (now (carried .entry)) «sum_word») (now (out .entry))) ⌝ }
+{
+    let written = packet_writer::write_packet(fields, arrays, carried, sum_word, out);
+    if let PacketWritten::Refused(n) = written {
+        return PacketRead {
+            answer: PacketAnswer::Refused(n),
+            arrays: PacketArrays {
+                temperatures: [0; 16],
+                readings: [0; 14],
+                bins: [0; 48],
+            },
+        };
+    }
+    packet::read_packet(out, sum_word)
+}
