@@ -5,7 +5,7 @@ use mathlib.Core.Bool.{Bool, true, false, _&&_, false≢true}
 use native.Mathlib.Omega.{arith}
 use lib.Dec.{eqb, leb}
 use borrow.Author.Tests.{eq-eqb, ne-eqb, le-leb, lt-leb, leb-true}
-use Rattle.octets.specs.Refusal.{refuse_unless_else_, _then_, within, Said, refused, answered, say, left, numberSaid}
+use Rattle.octets.specs.Refusal.{refuse_unless_else_, _then_, within, Said, refused, answered, say, after, numberSaid}
 
 pub pass : (b : Bool) (n next r : ℕ) → b ≡ true → r ≡ next → r ≡ (refuse n unless b else next)
 unfolding refuse_unless_else_
@@ -66,7 +66,7 @@ unfolding refuse_unless_else_
 passed true n next e = (refl, e)
 passed false n next e = absurd (omega arith)
 
--- what is said, and what is left, by the ladder's number
+-- what is said, and what stands afterwards, by the ladder's number
 pub say-refused : {A : Type 0} (n m : ℕ) (a : A) → n ≡ m → (n ≡ 0 → ⊥) → refused n ≡ say m a
 unfolding say
 say-refused zero m a e ne = absurd (ne refl)
@@ -87,14 +87,14 @@ unfolding say
 refusal-said n zero a e = let z : _≡_ {A = ℕ} 0 1 = cc in absurd (omega arith)
 refusal-said n (suc m) a e = (cc, λ z. omega arith)
 
-pub left-old : {A : Type 0} (n m : ℕ) (new old : A) → n ≡ m → (n ≡ 0 → ⊥) → old ≡ left m new old
-unfolding left
-left-old zero m new old e ne = absurd (ne refl)
-left-old (suc n) m new old e ne = ap (λ (k : ℕ). left k new old) e
+pub after-refused : {A : Type 0} (n m : ℕ) (new old : A) → n ≡ m → (n ≡ 0 → ⊥) → old ≡ after m new old
+unfolding after
+after-refused zero m new old e ne = absurd (ne refl)
+after-refused (suc n) m new old e ne = ap (λ (k : ℕ). after k new old) e
 
-pub left-new : {A : Type 0} (m : ℕ) (new old x : A) → m ≡ 0 → x ≡ new → x ≡ left m new old
-unfolding left
-left-new m new old x e q = q ∙ ap (λ (k : ℕ). left k new old) (sym e)
+pub after-done : {A : Type 0} (m : ℕ) (new old x : A) → m ≡ 0 → x ≡ new → x ≡ after m new old
+unfolding after
+after-done m new old x e q = q ∙ ap (λ (k : ℕ). after k new old) (sym e)
 
 pub number-say : {A : Type 0} (n : ℕ) (a : A) → numberSaid (say n a) ≡ n
 unfolding say

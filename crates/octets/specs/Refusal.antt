@@ -31,9 +31,9 @@ say zero a = answered a
 say (suc n) a = refused (suc n)
 
 -- what stands afterwards, by a ladder's number: what the work leaves, or what stood before
-unfoldable pub left : {A : Type 0} → ℕ → A → A → A
-left zero new old = new
-left (suc n) new old = old
+unfoldable pub after : {A : Type 0} → ℕ → A → A → A
+after zero new old = new
+after (suc n) new old = old
 
 -- the number that was said, 0 for an answer
 abbrev pub numberSaid : {A : Type 0} → Said A → ℕ

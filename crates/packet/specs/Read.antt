@@ -3,7 +3,7 @@ use Prim.Native.Nat.{ℕ}
 use mathlib.Core.List.{List}
 use lib.Dec.{eqb}
 use lib.ListN.{length}
-use Rattle.octets.specs.Refusal.{refuse_unless_else_, _then_, within, Said, refused, answered, say, left}
+use Rattle.octets.specs.Refusal.{refuse_unless_else_, _then_, within, Said, refused, answered, say, after}
 use Rattle.layout.specs.Column.{number}
 use Rattle.checksum.specs.Sum.{packetSum, wordAt}
 use Rattle.packet.specs.Layout.{packetType}
@@ -34,4 +34,4 @@ abbrev pub readSaid : List ℕ → ℕ → Said PacketFields
 readSaid bs w = say (readRefusal bs w) (fieldsOf bs)
 
 abbrev pub readArrays : List ℕ → ℕ → PacketArrays
-readArrays bs w = left (readRefusal bs w) (arraysOf bs) noArrays
+readArrays bs w = after (readRefusal bs w) (arraysOf bs) noArrays

@@ -8,7 +8,7 @@ use lib.Seq.{ext-getD}
 use Rattle.octets.specs.Bytes.{octetsOf, natAt, part, put}
 use Rattle.octets.specs.Refusal.{answered}
 use Rattle.octets.proofs.Codec.{octets-length, octets-part, part-at, read-one, read-write}
-use Rattle.octets.proofs.Ladder.{say-answered, left-new}
+use Rattle.octets.proofs.Ladder.{say-answered, after-done}
 use Rattle.octets.proofs.Store.{put-length, put-over, put-there}
 use Rattle.layout.specs.Column.{number, cut}
 use Rattle.checksum.specs.Sum.{packetSum, wordAt, wordSum, zeroed}
@@ -134,6 +134,6 @@ read-back f a x w out t ok =
     let z : 0 ≡ readRefusal bs w =
     accepts bs w (is-accepted f a y bs t (m .count) (m .error) size cuts w from to (sum ∙ sym word)) in (
       sym (say-answered _ (fieldsOf bs) f (sym z) (sym (fields-are f a y bs t (m .count) (m .error) size cuts))),
-      sym (left-new _ (arraysOf bs) noArrays a (sym z) (sym (arrays-are f a y bs t (m .count) (m .error) size cuts))),
+      sym (after-done _ (arraysOf bs) noArrays a (sym z) (sym (arrays-are f a y bs t (m .count) (m .error) size cuts))),
       ap (λ (ps : List (List ℕ)). getD ps 20 []) cuts ∙ ap (λ (k : ℕ). put x (w * 2 - 106) (octetsOf 2 k)) (sym sum),
     )

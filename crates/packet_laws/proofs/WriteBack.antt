@@ -8,7 +8,7 @@ use lib.Dec.{eqb}
 use lib.ListN.{length, getD}
 use lib.Seq.{ext-getD}
 use Rattle.octets.specs.Bytes.{octetsOf, natAt, part, put, Octets}
-use Rattle.octets.specs.Refusal.{refuse_unless_else_, left}
+use Rattle.octets.specs.Refusal.{refuse_unless_else_, after}
 use Rattle.octets.proofs.Codec.{octets-part, part-at, part-length, part-one, write-read}
 use Rattle.octets.proofs.Ladder.{pass-eq, pass-le, pass-within, then-fail, then-pass}
 use Rattle.octets.proofs.Read.{nat-lt}
@@ -143,5 +143,5 @@ module _ (bs : List ℕ) (w : ℕ) (out : List ℕ) (o : Octets bs) (z : readRef
   unfolding copyRefusal
   copy-number = (λ i. writeRefusal (ef i) (ex i) w out) ∙ sym (write-rest bs w o z out) ∙ then-pass (readRefusal bs w) _ _ z refl
 
-  pub copy-bytes : left (writeRefusal f x w out) (packetOf f b x w) out ≡ left (copyRefusal bs w out) bs out
-  copy-bytes = λ i. left (copy-number i) (((λ j. packetOf (ef j) (eb j) (ex j) w) ∙ packet-is bs w o z) i) out
+  pub copy-bytes : after (writeRefusal f x w out) (packetOf f b x w) out ≡ after (copyRefusal bs w out) bs out
+  copy-bytes = λ i. after (copy-number i) (((λ j. packetOf (ef j) (eb j) (ex j) w) ∙ packet-is bs w o z) i) out

@@ -6,11 +6,11 @@ use mathlib.Core.List.{List}
 use lib.Dec.{eqb}
 use lib.ListN.{length}
 use Rattle.octets.specs.Bytes.{octetsOf, put, Octets}
-use Rattle.octets.specs.Refusal.{refuse_unless_else_, _then_, answered}
+use Rattle.octets.specs.Refusal.{refuse_unless_else_, _then_, Said, answered, say, after}
 use Rattle.layout.specs.Column.{holders}
 use Rattle.checksum.specs.Sum.{packetSum}
 use Rattle.packet.specs.Layout.{packetColumns}
-use Rattle.packet.specs.Fields.{fieldsOf, arraysOf, carriedOf}
+use Rattle.packet.specs.Fields.{fieldsOf, arraysOf, carriedOf, noArrays}
 use Rattle.packet.specs.Read.{readRefusal, readSaid, readArrays}
 use Rattle.packet.specs.declared.PacketFields.{PacketFields}
 use Rattle.packet.specs.declared.PacketArrays.{PacketArrays}
@@ -51,3 +51,16 @@ WritesBack =
 -- reading and writing again: the reader's refusals, then 18 for an output that is not 1,080 bytes
 unfoldable pub copyRefusal : List ℕ → ℕ → List ℕ → ℕ
 copyRefusal bs w out = readRefusal bs w then refuse 18 unless eqb (length out) 1080 else 0
+
+abbrev pub copySaid : List ℕ → ℕ → List ℕ → Said (Unit {0})
+copySaid bs w out = say (copyRefusal bs w out) tt
+
+abbrev pub copyBytes : List ℕ → ℕ → List ℕ → List ℕ
+copyBytes bs w out = after (copyRefusal bs w out) bs out
+
+-- writing and reading again: the writer's refusals, else the fields and arrays that were given
+abbrev pub echoSaid : PacketFields → List ℕ → ℕ → List ℕ → Said PacketFields
+echoSaid f x w out = say (writeRefusal f x w out) f
+
+abbrev pub echoArrays : PacketFields → PacketArrays → List ℕ → ℕ → List ℕ → PacketArrays
+echoArrays f a x w out = after (writeRefusal f x w out) a noArrays

@@ -5,11 +5,9 @@ use packet::PacketFields;
 use packet::PacketRead;
 use packet_writer::PacketWritten;
 ghost use mathlib.Core.Path.{_≡_};
-ghost use Rattle.octets.specs.Refusal.{say, left};
-ghost use Rattle.packet.specs.Fields.{noArrays};
 ghost use Rattle.packet.specs.Read.{said};
-ghost use Rattle.packet_writer.specs.Write.{packetOf, writeRefusal, saidWritten};
-ghost use Rattle.packet_laws.specs.RoundTrip.{Covers, ReadsBack, WritesBack, copyRefusal};
+ghost use Rattle.packet_writer.specs.Write.{saidWritten, writeBytes};
+ghost use Rattle.packet_laws.specs.RoundTrip.{Covers, ReadsBack, WritesBack, copySaid, copyBytes, echoSaid, echoArrays};
 
 // Each byte of the packet stands in exactly one column of its table.
 pub fn layout_covers()
@@ -28,8 +26,8 @@ pub fn writes_back()
 
 // Reads a packet and writes it again: an accepted packet's own bytes stand in the output.
 pub fn copy_packet(bytes: &[u8], sum_word: usize, out: &mut [u8]) -> PacketWritten
-    ensures { λ r. ⌜ (saidWritten r ≡ say (copyRefusal (now (bytes .entry)) «sum_word» (now (out .entry))) tt)
-        × (now (out .exit) ≡ left (copyRefusal (now (bytes .entry)) «sum_word» (now (out .entry))) (now (bytes .entry)) (now (out .entry))) ⌝ }
+    ensures { λ r. ⌜ (saidWritten r ≡ copySaid (now (bytes .entry)) «sum_word» (now (out .entry)))
+        × (now (out .exit) ≡ copyBytes (now (bytes .entry)) «sum_word» (now (out .entry))) ⌝ }
 {
     let read = packet::read_packet(bytes, sum_word);
     let answer = read.answer;
@@ -49,10 +47,9 @@ pub fn write_and_read(
     sum_word: usize,
     out: &mut [u8],
 ) -> PacketRead
-    ensures { λ r. ⌜ (said (r .answer) ≡ say (writeRefusal fields (now (carried .entry)) «sum_word» (now (out .entry))) fields)
-        × (r .arrays ≡ left (writeRefusal fields (now (carried .entry)) «sum_word» (now (out .entry))) arrays noArrays)
-        × (now (out .exit) ≡ left (writeRefusal fields (now (carried .entry)) «sum_word» (now (out .entry)))
-        (packetOf fields arrays (now (carried .entry)) «sum_word») (now (out .entry))) ⌝ }
+    ensures { λ r. ⌜ (said (r .answer) ≡ echoSaid fields (now (carried .entry)) «sum_word» (now (out .entry)))
+        × (r .arrays ≡ echoArrays fields arrays (now (carried .entry)) «sum_word» (now (out .entry)))
+        × (now (out .exit) ≡ writeBytes fields arrays (now (carried .entry)) «sum_word» (now (out .entry))) ⌝ }
 {
     let written = packet_writer::write_packet(fields, arrays, carried, sum_word, out);
     if let PacketWritten::Refused(n) = written {

@@ -5,7 +5,7 @@ use mathlib.Core.List.{List, [], _∷_, _++_}
 use lib.Dec.{eqb, leb}
 use lib.ListN.{length, getD}
 use Rattle.octets.specs.Bytes.{octetsOf, put}
-use Rattle.octets.specs.Refusal.{refuse_unless_else_, within, Said, refused, answered}
+use Rattle.octets.specs.Refusal.{refuse_unless_else_, within, Said, refused, answered, say, after}
 use Rattle.octets.specs.Table.{table}
 use Rattle.layout.specs.Column.{join}
 use Rattle.checksum.specs.Sum.{packetSum}
@@ -80,3 +80,10 @@ writeRefusal f x w out =
 abbrev pub saidWritten : PacketWritten → Said (Unit {0})
 saidWritten (Refused n) = refused n
 saidWritten Written = answered tt
+
+-- what the writer says, and the bytes then in the output
+abbrev pub writeSaid : PacketFields → List ℕ → ℕ → List ℕ → Said (Unit {0})
+writeSaid f x w out = say (writeRefusal f x w out) tt
+
+abbrev pub writeBytes : PacketFields → PacketArrays → List ℕ → ℕ → List ℕ → List ℕ
+writeBytes f a x w out = after (writeRefusal f x w out) (packetOf f a x w) out

@@ -5,10 +5,9 @@ ghost use mathlib.Core.Path.{_≡_};
 ghost use Prim.Native.Nat.{_-_, _≤_, _<_};
 ghost use lib.ListN.{length};
 ghost use Rattle.octets.specs.Bytes.{octetsOf};
-ghost use Rattle.octets.specs.Refusal.{say, left};
 ghost use Rattle.layout.specs.Column.{join};
 ghost use Rattle.packet.specs.Bins.{binByte};
-ghost use Rattle.packet_writer.specs.Write.{headParts, statusParts, histogramOf, unsummed, packetOf, writeRefusal, saidWritten};
+ghost use Rattle.packet_writer.specs.Write.{headParts, statusParts, histogramOf, unsummed, writeRefusal, saidWritten, writeSaid, writeBytes};
 
 // A refusal with its number, or the packet is in the output.
 pub enum PacketWritten {
@@ -147,9 +146,8 @@ pub fn write_packet(
     sum_word: usize,
     out: &mut [u8],
 ) -> PacketWritten
-    ensures { λ r. ⌜ (saidWritten r ≡ say (writeRefusal fields (now (carried .entry)) «sum_word» (now (out .entry))) tt)
-        × (now (out .exit) ≡ left (writeRefusal fields (now (carried .entry)) «sum_word» (now (out .entry)))
-        (packetOf fields arrays (now (carried .entry)) «sum_word») (now (out .entry))) ⌝ }
+    ensures { λ r. ⌜ (saidWritten r ≡ writeSaid fields (now (carried .entry)) «sum_word» (now (out .entry)))
+        × (now (out .exit) ≡ writeBytes fields arrays (now (carried .entry)) «sum_word» (now (out .entry))) ⌝ }
 {
     let n = refusal(fields, carried, sum_word, out);
     if n != 0 {

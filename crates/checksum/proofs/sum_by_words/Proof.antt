@@ -10,8 +10,6 @@ use Rattle.checksum.proofs.Sum.{add-none, add-more, add-done, sum-word}
 use Rattle.checksum.proofs.sum_by_words.Statement.{statement}
 use Rattle.checksum.proofs.sum_by_words.Tie as tie
 
--- The invariant: what is added so far and the words that are left make the whole.
-
 abbrev Inv-loop : tie.InvT-loop
 Inv-loop bytes start n i₀ sum₀ i sum =
     (n ≡ length bytes) × (i ≤ n + 1) × (sum < 65536) × ((sum + wordSum (drop i bytes)) % 65536 ≡ wordSum (drop start bytes) % 65536)

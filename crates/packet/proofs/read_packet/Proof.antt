@@ -1,7 +1,7 @@
 -- What is said, and the arrays beside it, by the ladder's number.
 use mathlib.Core.Path.{sym, _∙_}
 use denote.Ref.{now}
-use Rattle.octets.proofs.Ladder.{say-refused, say-answered, left-old, left-new}
+use Rattle.octets.proofs.Ladder.{say-refused, say-answered, after-refused, after-done}
 use Rattle.packet.specs.Fields.{fieldsOf, arraysOf, noArrays}
 use borrow.Author.Needs.{needs}
 use Rattle.packet.proofs.read_packet.Statement.{statement}
@@ -14,7 +14,7 @@ returns : tie.Need-returns
 returns c =
     let s = now (c .before .before .before .args .bytes) in
     let e = c .before .refusal .ensures in
-    (say-refused _ _ (fieldsOf s) e (c .if1 .taken), left-old _ _ (arraysOf s) noArrays e (c .if1 .taken))
+    (say-refused _ _ (fieldsOf s) e (c .if1 .taken), after-refused _ _ (arraysOf s) noArrays e (c .if1 .taken))
 
 read-fields-requires : tie.Need-read-fields-requires
 read-fields-requires c κs = search needs
@@ -26,7 +26,7 @@ returns-2 : tie.Need-returns-2
 returns-2 c =
     let s = now (c .before .before .before .before .before .args .bytes) in
     let z = sym (c .before .before .before .refusal .ensures) ∙ c .before .before .if1 .left in
-    (say-answered _ (fieldsOf s) _ z (c .before .read-fields .ensures), left-new _ (arraysOf s) noArrays _ z (c .read-arrays .ensures))
+    (say-answered _ (fieldsOf s) _ z (c .before .read-fields .ensures), after-done _ (arraysOf s) noArrays _ z (c .read-arrays .ensures))
 
 pub read-packet-spec : {M : Type 1} → statement M
 read-packet-spec =

@@ -3,7 +3,7 @@ use mathlib.Core.Path.{_≡_, ap, sym, refl, _∙_}
 use Prim.Native.Nat.{ℕ}
 use mathlib.Core.List.{List}
 use denote.Ref.{now}
-use Rattle.octets.proofs.Ladder.{say-refused, say-answered, left-old, left-new, answer-said, refusal-said}
+use Rattle.octets.proofs.Ladder.{say-refused, say-answered, after-refused, after-done, answer-said, refusal-said}
 use Rattle.packet.specs.Fields.{noArrays}
 use Rattle.packet.specs.Read.{readSaid, readArrays}
 use Rattle.packet_writer.specs.Write.{packetOf, saidWritten}
@@ -27,7 +27,7 @@ returns c =
     let a = c .before .before .before .before .before .before .before .before .before .args in
     let w = c .before .before .before .before .before .write-packet .ensures in
     let q = refusal-said _ _ tt (sym (ap saidWritten (c .before .written .given .1)) ∙ w .0) in
-    (say-refused _ _ (a .fields) (q .0) (λ z. q .1 (sym (q .0) ∙ z)), left-old _ _ (a .arrays) noArrays (q .0) (λ z. q .1 (sym (q .0) ∙ z)), w .1)
+    (say-refused _ _ (a .fields) (q .0) (λ z. q .1 (sym (q .0) ∙ z)), after-refused _ _ (a .arrays) noArrays (q .0) (λ z. q .1 (sym (q .0) ∙ z)), w .1)
 
 enum-told : tie.Need-enum-told
 enum-told c = search needs
@@ -60,11 +60,11 @@ returns-2 c =
     let w = c .before .before .before .before .before .before .write-packet .ensures in
     let q = answer-said _ tt _ (sym (ap saidWritten (c .before .before .enum-told .given .1)) ∙ w .0) in
     let p : List ℕ = packetOf (a .fields) (a .arrays) (now (a .carried)) (a .sum-word) in
-    let e = w .1 ∙ sym (left-new _ p (now (a .out)) p (q .0) refl) in
+    let e = w .1 ∙ sym (after-done _ p (now (a .out)) p (q .0) refl) in
     let t = read-back (a .fields) (a .arrays) (now (a .carried)) (a .sum-word) (now (a .out)) (typed s) (q .0) in
     let r = c .read-packet .ensures in (
       r .0 ∙ ap (λ (l : List ℕ). readSaid l (a .sum-word)) e ∙ t .0 ∙ say-answered _ (a .fields) (a .fields) (q .0) refl,
-      r .1 ∙ ap (λ (l : List ℕ). readArrays l (a .sum-word)) e ∙ t .1 ∙ left-new _ (a .arrays) noArrays (a .arrays) (q .0) refl,
+      r .1 ∙ ap (λ (l : List ℕ). readArrays l (a .sum-word)) e ∙ t .1 ∙ after-done _ (a .arrays) noArrays (a .arrays) (q .0) refl,
       w .1,
     )
 

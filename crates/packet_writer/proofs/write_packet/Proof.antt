@@ -3,7 +3,7 @@ use mathlib.Core.Path.{_≡_, refl, sym, _∙_}
 use lib.ListN.{length}
 use denote.Ref.{now}
 use native.Mathlib.Omega.{arith}
-use Rattle.octets.proofs.Ladder.{say-refused, say-answered, left-old, left-new}
+use Rattle.octets.proofs.Ladder.{say-refused, say-answered, after-refused, after-done}
 use Rattle.packet_writer.specs.Write.{packetOf}
 use Rattle.packet_writer.proofs.Accept.{Writable, writable, summed}
 use borrow.Author.Needs.{needs}
@@ -21,7 +21,7 @@ returns c =
     let a = c .before .before .before .before .before .args in
     let e = c .before .refusal .ensures in
     let p = packetOf (a .fields) (a .arrays) (now (a .carried)) (a .sum-word) in
-    (say-refused _ _ tt e (c .if1 .taken), left-old _ _ p (now (a .out)) e (c .if1 .taken))
+    (say-refused _ _ tt e (c .if1 .taken), after-refused _ _ p (now (a .out)) e (c .if1 .taken))
 
 -- past the test the writer may write
 may : (c : tie.Else1) → let a = c .before .before .before .before .before .args in Writable (a .fields) (now (a .carried)) (a .sum-word) (now (a .out))
@@ -59,7 +59,7 @@ returns-2 c =
     let o = c .before .before .write-into in
     let p = packetOf (a .fields) (a .arrays) (now (a .carried)) (a .sum-word) in (
       say-answered _ tt tt z refl,
-      left-new _ p (now (a .out)) _ z
+      after-done _ p (now (a .out)) _ z
           (summed (a .fields) (a .arrays) (now (a .carried)) (a .sum-word) (s .result) (u .last .1 .1 .1 .1 .1 .0) (v .result) _
           (u .ensures) (s .ensures) (v .ensures) (o .ensures)),
     )
