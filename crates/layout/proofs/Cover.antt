@@ -1,12 +1,12 @@
 -- What the test `tiles` shows of a layout: each byte stands in one column; bytes that are cut and joined, and columns that are joined and
 -- cut, are as they were.
-use Prim.Native.Nat.{ℕ, zero, suc, _+_, _*_, _<_, _≤_}
+use Prim.Native.Nat.{ℕ, _+_, _<_, _≤_}
 use mathlib.Core.Path.{_≡_, refl, sym, ap, _∙_}
 use mathlib.Core.Bool.{Bool, true, false, _&&_}
 use mathlib.Core.List.{List, [], _∷_, _++_, append-assoc}
 use native.Mathlib.Omega.{arith}
 use borrow.Author.Tests.{eqb-true, le-leb, lt-leb, ltb-true, ltb-false}
-use lib.Dec.{eqb, leb, ltb}
+use lib.Dec.{eqb, ltb}
 use lib.ListN.{length, take, drop, take-append-drop, drop-of-length-le, length-append}
 use lib.Seq.{drop-drop, take-at, drop-at}
 use Rattle.octets.specs.Bytes.{part}

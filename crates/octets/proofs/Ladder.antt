@@ -5,7 +5,7 @@ use mathlib.Core.Bool.{Bool, true, false, _&&_, false≢true}
 use native.Mathlib.Omega.{arith}
 use lib.Dec.{eqb, leb}
 use borrow.Author.Tests.{eq-eqb, ne-eqb, le-leb, lt-leb, leb-true}
-use Rattle.octets.specs.Refusal.{refuse_unless_else_, _then_, within, Said, refused, answered, say, after, numberSaid}
+use Rattle.octets.specs.Refusal.{refuse_unless_else_, _then_, within, refused, answered, say, after, numberSaid}
 
 pub pass : (b : Bool) (n next r : ℕ) → b ≡ true → r ≡ next → r ≡ (refuse n unless b else next)
 unfolding refuse_unless_else_

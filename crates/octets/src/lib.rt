@@ -1,7 +1,7 @@
 // Numbers in lent bytes, the most significant byte first, and bytes copied from one slice to another. Every function takes any slice and
 // any index: a byte past the end is read as 0, and one that would be stored past the end is left out.
 ghost use mathlib.Core.Path.{_≡_};
-ghost use Prim.Native.Nat.{min};
+ghost use Prim.Native.Nat.{_+_, min};
 ghost use lib.ListN.{length, getD};
 ghost use Rattle.octets.specs.Bytes.{natAt, intAt, signed, put};
 ghost use Rattle.octets.specs.Table.{octetsAt};
@@ -16,34 +16,39 @@ pub fn u8_at(bytes: &[u8], i: usize) -> u8
     0
 }
 
-// The number in two bytes from index i on.
-pub fn u16_at(bytes: &[u8], i: usize) -> u16
-    ensures { λ r. ⌜ r ≡ natAt (now (bytes .entry)) i 2 ⌝ }
+// The byte k places after index i.
+fn u8_after(bytes: &[u8], i: usize, k: usize) -> u8
+    ensures { λ r. ⌜ r ≡ getD (now (bytes .entry)) (i + k) 0 ⌝ }
 {
     if bytes.len() <= i {
         return 0;
     }
-    (u8_at(bytes, i) as u16) * 256 + u8_at(bytes, i + 1) as u16
+    if bytes.len() - i <= k {
+        return 0;
+    }
+    bytes[i + k]
+}
+
+// The number in two bytes from index i on.
+pub fn u16_at(bytes: &[u8], i: usize) -> u16
+    ensures { λ r. ⌜ r ≡ natAt (now (bytes .entry)) i 2 ⌝ }
+{
+    (u8_at(bytes, i) as u16) * 256 + u8_after(bytes, i, 1) as u16
 }
 
 // The number in three bytes from index i on.
 pub fn u24_at(bytes: &[u8], i: usize) -> u32
     ensures { λ r. ⌜ r ≡ natAt (now (bytes .entry)) i 3 ⌝ }
 {
-    if bytes.len() <= i {
-        return 0;
-    }
-    (u16_at(bytes, i) as u32) * 256 + u8_at(bytes, i + 2) as u32
+    (u16_at(bytes, i) as u32) * 256 + u8_after(bytes, i, 2) as u32
 }
 
 // The number in four bytes from index i on.
 pub fn u32_at(bytes: &[u8], i: usize) -> u32
     ensures { λ r. ⌜ r ≡ natAt (now (bytes .entry)) i 4 ⌝ }
 {
-    if bytes.len() <= i {
-        return 0;
-    }
-    (u16_at(bytes, i) as u32) * 65536 + u16_at(bytes, i + 2) as u32
+    ((u16_at(bytes, i) as u32) * 256 + u8_after(bytes, i, 2) as u32) * 256
+        + u8_after(bytes, i, 3) as u32
 }
 
 // The two's complement reading of 16 bits.

@@ -1,5 +1,5 @@
 -- The packet's columns: its parts fit them, and a store behind the front is one in the carried bytes.
-use Prim.Native.Nat.{ℕ, _+_, _-_, _*_, _≤_}
+use Prim.Native.Nat.{ℕ, _-_, _≤_}
 use mathlib.Core.Path.{_≡_, refl, sym, ap, _∙_}
 use mathlib.Core.Bool.{true}
 use mathlib.Core.List.{List, [], _∷_, _++_, append-nil}
@@ -8,7 +8,7 @@ use native.Mathlib.Omega.{arith}
 use lib.ListN.{length, take}
 use Rattle.octets.specs.Bytes.{octetsOf, put}
 use Rattle.octets.proofs.Store.{put-behind}
-use Rattle.layout.specs.Column.{Column, tiles, cut, join}
+use Rattle.layout.specs.Column.{tiles, cut, join}
 use Rattle.layout.proofs.Cover.{Fit, done, _▹_, cut-join, join-append, join-length}
 use Rattle.packet.specs.Layout.{packetColumns}
 use Rattle.packet.specs.declared.PacketFields.{PacketFields}

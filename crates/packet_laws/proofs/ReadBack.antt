@@ -1,13 +1,12 @@
 -- Reading what was written: column by column, then the sum.
-use Prim.Native.Nat.{ℕ, _+_, _-_, _*_, _/_, _%_, _^_, _<_, _≤_}
+use Prim.Native.Nat.{ℕ, _+_, _-_, _*_, _/_, _%_, _<_, _≤_}
 use mathlib.Core.Path.{_≡_, refl, sym, ap, _∙_}
 use mathlib.Core.List.{List, [], _∷_}
 use native.Mathlib.Omega.{arith}
-use lib.ListN.{length, getD, take, drop}
+use lib.ListN.{length, getD}
 use lib.Seq.{ext-getD}
-use Rattle.octets.specs.Bytes.{octetsOf, natAt, part, put}
-use Rattle.octets.specs.Refusal.{answered}
-use Rattle.octets.proofs.Codec.{octets-length, octets-part, part-at, read-one, read-write}
+use Rattle.octets.specs.Bytes.{octetsOf, put}
+use Rattle.octets.proofs.Codec.{octets-part, part-at, read-one, read-write}
 use Rattle.octets.proofs.Ladder.{say-answered, after-done}
 use Rattle.octets.proofs.Store.{put-length, put-over, put-there}
 use Rattle.layout.specs.Column.{number, cut}
@@ -15,13 +14,13 @@ use Rattle.checksum.specs.Sum.{packetSum, wordAt, wordSum, zeroed}
 use Rattle.checksum.proofs.Sum.{sum-lt}
 use Rattle.packet.specs.Layout as columns
 use Rattle.packet.specs.Bins.{binByte, binsOf}
-use Rattle.packet.specs.Fields.{fieldsOf, arraysOf, carriedOf, noArrays}
-use Rattle.packet.specs.Read.{readRefusal, readSaid, readArrays}
+use Rattle.packet.specs.Fields.{fieldsOf, arraysOf, noArrays}
+use Rattle.packet.specs.Read.{readRefusal}
 use Rattle.packet.specs.declared.PacketFields.{PacketFields}
 use Rattle.packet.specs.declared.PacketArrays.{PacketArrays}
 use Rattle.packet.proofs.Accept.{Accepted, accepts}
 use Rattle.packet.proofs.Swap.{bins-length, bins-at, bin-byte-range, bin-byte-twice}
-use Rattle.packet_writer.specs.Write.{idWord, sequenceWord, histogramOf, partsOf, unsummed, packetOf, writeRefusal}
+use Rattle.packet_writer.specs.Write.{idWord, sequenceWord, partsOf, unsummed, packetOf}
 use Rattle.packet_writer.proofs.Accept.{Writable, writable}
 use Rattle.packet_writer.proofs.Histogram.{histogram-at}
 use Rattle.packet_laws.specs.RoundTrip.{Typed, ReadsBack}

@@ -1,5 +1,5 @@
 -- Writing what was read: column by column, then the sum.
-use Prim.Native.Nat.{ℕ, _+_, _-_, _*_, _/_, _%_, _^_, _<_, _≤_}
+use Prim.Native.Nat.{ℕ, _+_, _-_, _*_, _/_, _%_, _<_, _≤_}
 use mathlib.Core.Path.{_≡_, refl, sym, ap, _∙_}
 use mathlib.Core.List.{List, [], _∷_}
 use native.Mathlib.Nat.{div-div-eq-div-mul}
@@ -15,7 +15,7 @@ use Rattle.octets.proofs.Read.{nat-lt}
 use Rattle.octets.proofs.Store.{put-same}
 use Rattle.layout.specs.Column.{number, cut, join}
 use Rattle.layout.proofs.Cover.{join-cut}
-use Rattle.checksum.specs.Sum.{packetSum, wordAt}
+use Rattle.checksum.specs.Sum.{packetSum}
 use Rattle.packet.specs.Layout as columns
 use Rattle.packet.specs.Bins.{binByte, binsOf}
 use Rattle.packet.specs.Fields.{fieldsOf, arraysOf, carriedOf}

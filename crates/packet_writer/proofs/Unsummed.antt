@@ -1,11 +1,11 @@
 -- The packet's bytes, written in seven sections.
-use Prim.Native.Nat.{ℕ, _≤_}
-use mathlib.Core.Path.{_≡_, refl, sym, ap, _∙_}
+use Prim.Native.Nat.{ℕ}
+use mathlib.Core.Path.{_≡_, refl, ap, _∙_}
 use mathlib.Core.List.{List, [], _∷_}
 use lib.ListN.{length}
 use Rattle.octets.specs.Bytes.{octetsOf, put}
 use Rattle.layout.specs.Column.{Column, column, join}
-use Rattle.layout.proofs.Cover.{Fit, done, _▹_}
+use Rattle.layout.proofs.Cover.{done, _▹_}
 use Rattle.layout.proofs.Store.{putAll, put-join}
 use Rattle.packet.specs.declared.PacketFields.{PacketFields}
 use Rattle.packet.specs.declared.PacketArrays.{PacketArrays}

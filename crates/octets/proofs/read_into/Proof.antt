@@ -1,5 +1,5 @@
 -- One law of loops that fill a list, at the bytes from index i on.
-use Prim.Native.Nat.{_+_, _-_, _≤_, min}
+use Prim.Native.Nat.{_+_, _-_, min}
 use mathlib.Core.Path.{_≡_, _∙_, refl}
 use denote.Ref.{now}
 use native.Mathlib.Omega.{arith}

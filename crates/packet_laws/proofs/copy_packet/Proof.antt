@@ -1,9 +1,8 @@
 -- The reader refuses, or the writer is given what was read.
-use mathlib.Core.Path.{_≡_, ap, sym, refl, _∙_}
+use mathlib.Core.Path.{ap, sym, refl, _∙_}
 use Prim.Native.Nat.{ℕ}
 use mathlib.Core.List.{List}
 use denote.Ref.{now}
-use native.Mathlib.Omega.{arith}
 use Rattle.octets.specs.Bytes.{Octets}
 use Rattle.octets.specs.Refusal.{numberSaid, say}
 use Rattle.octets.proofs.Ladder.{say-refused, after-refused, after-done, number-say, answer-said, refusal-said}

@@ -1,6 +1,5 @@
 -- What is said, and the bytes then in the output, by the ladder's number.
-use mathlib.Core.Path.{_≡_, refl, sym, _∙_}
-use lib.ListN.{length}
+use mathlib.Core.Path.{refl, sym, _∙_}
 use denote.Ref.{now}
 use native.Mathlib.Omega.{arith}
 use Rattle.octets.proofs.Ladder.{say-refused, say-answered, after-refused, after-done}
