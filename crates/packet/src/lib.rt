@@ -7,6 +7,9 @@ ghost use Rattle.packet.specs.Header.{headerRefusal};
 ghost use Rattle.packet.specs.Fields.{fieldsOf, arraysOf, carriedOf};
 ghost use Rattle.packet.specs.Read.{readRefusal, said, readSaid, readArrays};
 
+// The published place of the science packet's sum, a word number (docs/LAYOUTS.md has the working).
+pub const PUBLISHED_SUM_WORD: usize = 70;
+
 // The free fields that are single numbers.
 pub struct PacketFields {
     pub error_status: u8,
