@@ -3,7 +3,7 @@ use crate::tables;
 ghost use Prim.Native.Nat.{_≤_, _<_};
 
 // The number that a row gives to a field, or another where the row does not name it.
-pub fn given(row: u64, field: u64, other: u64) -> u64
+pub(crate) fn given(row: u64, field: u64, other: u64) -> u64
     requires { ⌜ other < 100000 ⌝ }
     ensures { λ r. ⌜ r < 100000 ⌝ }
 {
@@ -153,7 +153,7 @@ fn byte_of(row: u64, sum_word: usize, sum: u32, b: usize) -> u8 {
 }
 
 // Fills out with a row's packet, its sum at sum_word; past the packet the fill goes on.
-pub fn packet_of(row: u64, sum_word: usize, out: &mut [u8]) {
+pub(crate) fn packet_of(row: u64, sum_word: usize, out: &mut [u8]) {
     let sum = sum_of(row, sum_word);
     let mut b = 0;
     while b < out.len() {

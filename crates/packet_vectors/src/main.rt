@@ -34,10 +34,10 @@ fn run_all(heading: &[u8], table: Table, n: usize) {
 
 fn main() {
     reads::legend();
-    run_all(b"reads\n", Table::Reads, 78);
+    run_all(b"reads\n", Table::Reads, 80);
     run_all(b"reads at words 53, 70 and 539\n", Table::Checks, 132);
     run_all(b"words outside 53 to 539\n", Table::Words, 10);
-    run_all(b"writes\n", Table::Writes, 36);
+    run_all(b"writes\n", Table::Writes, 41);
     run_all(
         b"HSTART, first bin, starts of bins 0, 1, 47\n",
         Table::Hstarts,

@@ -6,7 +6,7 @@ use packet::PacketAnswer;
 use packet::PacketArrays;
 use packet::PacketFields;
 
-pub fn legend() {
+pub(crate) fn legend() {
     show::text(
         b"fields: error_status count coarse_time fine_time status_register software_version ram_flag_word \
         status_word_1 status_word_2 software_checksum commands_received command_errors transmitter_threshold \
@@ -80,7 +80,7 @@ fn accepted(bytes: &[u8], word: usize, f: PacketFields, arrays: PacketArrays) {
 }
 
 // What the reader says of bytes.
-pub fn judge(bytes: &[u8], word: usize, row: u64) {
+pub(crate) fn judge(bytes: &[u8], word: usize, row: u64) {
     let read = packet::read_packet(bytes, word);
     let answer = read.answer;
     let arrays = read.arrays;
@@ -98,7 +98,7 @@ fn judge_row(row: u64, stored: usize, told: usize, bytes: &mut [u8]) {
 }
 
 // Row i with its sum stored at one word, where the reader is told that word or another.
-pub fn read_at(i: usize, row: u64, stored: usize, told: usize) {
+pub(crate) fn read_at(i: usize, row: u64, stored: usize, told: usize) {
     let mut room = [0; 2160];
     let length = build::given(row, tables::SIZE, 1080) as usize;
     show::head(b"read", i, told);
@@ -110,20 +110,20 @@ pub fn read_at(i: usize, row: u64, stored: usize, told: usize) {
     show::text(b"\n");
 }
 
-pub fn read(i: usize, row: u64) {
+pub(crate) fn read(i: usize, row: u64) {
     let stored = build::given(row, tables::AT, 70);
     let told = build::given(row, tables::WORD, stored);
     read_at(i, row, stored as usize, told as usize);
 }
 
-pub fn read_at_three_words(i: usize, row: u64) {
+pub(crate) fn read_at_three_words(i: usize, row: u64) {
     read_at(i, row, 53, 53);
     read_at(i, row, 70, 70);
     read_at(i, row, 539, 539);
 }
 
 // The first bin of an HSTART, and where bins 0, 1 and 47 start.
-pub fn hstart(h: u16) {
+pub(crate) fn hstart(h: u16) {
     let starts = packet::bins::bin_starts(h);
     show::text(b"hstart");
     show::entry_16(h);

@@ -67,7 +67,7 @@ pub const OUTPUT: u64 = 18 * FIELD; // how many bytes of output the writer is gi
 pub const IN_FULL: u64 = 19 * FIELD + 1; // no change: the arrays are shown in full, the 48 bins last
 
 // Packets to read, with the sum at word 70 where the row does not say otherwise.
-const READS: [u64; 78] = [
+const READS: [u64; 80] = [
     // Free fields and carried bytes.
     STATUS + 0,
     STATUS + 1,
@@ -143,12 +143,14 @@ const READS: [u64; 78] = [
     DUE + SIZE + 2160, // two packets
     // Two conditions fail, and the first in the order is given.
     DUE + SIZE + 1079 + AND * (WORD + 52), // 1 and 2
+    DUE + SIZE + 1079 + AND * (WORD + 540), // 1 and 2
+    DUE + SIZE + 1081 + AND * (WORD + 52), // 1 and 2
     DUE + SIZE + 1081 + AND * (WORD + 540), // 1 and 2
     DUE + SIZE + 1081 + AND * (VERSION + 1), // 1 and 3
     DUE + SIZE + 1079 + AND * (TYPE + 1), // 1 and 9
     DUE + SIZE + 1079 + UP, // 1 and 10
     2 * DUE + AT + 52 + AND * (VERSION + 1), // 2 and 3
-    2 * DUE + WORD + 540 + AND * (FLAG + 1), // 2 and 5
+    2 * DUE + WORD + 540 + AND * (VERSION + 1), // 2 and 3
     2 * DUE + WORD + 540 + UP, // 2 and 10
 ];
 
@@ -306,7 +308,8 @@ const WORDS: [u64; 10] = [
 ];
 
 // Packets to write, with the fields, arrays and carried bytes of the row's fill but for its changes.
-const WRITES: [u64; 36] = [
+const WRITES: [u64; 41] = [
+    // Written.
     BASE,
     WORD + 53,
     WORD + 54,
@@ -321,6 +324,7 @@ const WRITES: [u64; 36] = [
     ONES,
     ONES + WORD + 539,
     COUNTING,
+    // One condition fails.
     17 * DUE + COUNT + 16384,
     17 * DUE + COUNT + 16384 + AND * (WORD + 53),
     17 * DUE + COUNT + 16384 + AND * (WORD + 539),
@@ -337,9 +341,15 @@ const WRITES: [u64; 36] = [
     18 * DUE + OUTPUT + 1079,
     18 * DUE + OUTPUT + 1081,
     18 * DUE + OUTPUT + 2160,
+    // Two conditions fail, and the first in the order is given.
     2 * DUE + WORD + 52 + AND * (COUNT + 16384), // 2 and 17
-    2 * DUE + WORD + 540 + AND * (CARRIED + 973), // 2 and 17
+    2 * DUE + WORD + 52 + AND * (STATUS + 8), // 2 and 17
+    2 * DUE + WORD + 52 + AND * (CARRIED + 973), // 2 and 17
     2 * DUE + WORD + 52 + AND * (OUTPUT + 1079), // 2 and 18
+    2 * DUE + WORD + 540 + AND * (COUNT + 16384), // 2 and 17
+    2 * DUE + WORD + 540 + AND * (STATUS + 8), // 2 and 17
+    2 * DUE + WORD + 540 + AND * (CARRIED + 975), // 2 and 17
+    2 * DUE + WORD + 540 + AND * (OUTPUT + 1081), // 2 and 18
     17 * DUE + COUNT + 16384 + AND * (OUTPUT + 1079), // 17 and 18
     17 * DUE + STATUS + 8 + AND * (OUTPUT + 1081), // 17 and 18
     17 * DUE + CARRIED + 975 + AND * (OUTPUT + 0), // 17 and 18
@@ -356,12 +366,12 @@ pub enum Table {
 }
 
 // Row i of a table, from 0; past the end, 0.
-pub fn row(table: Table, i: usize) -> u64 {
+pub(crate) fn row(table: Table, i: usize) -> u64 {
     match table {
-        Table::Reads => if i < 78 { READS[i] } else { 0 },
+        Table::Reads => if i < 80 { READS[i] } else { 0 },
         Table::Checks => if i < 132 { CHECKS[i] } else { 0 },
         Table::Words => if i < 10 { WORDS[i] } else { 0 },
-        Table::Writes => if i < 36 { WRITES[i] } else { 0 },
+        Table::Writes => if i < 41 { WRITES[i] } else { 0 },
         Table::Hstarts => if i < 13 { HSTARTS[i] } else { 0 },
     }
 }

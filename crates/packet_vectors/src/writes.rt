@@ -79,7 +79,7 @@ fn show_output(room: &[u8; 2160]) {
 }
 
 // Row i with its sum at a word, into an output whose bytes are all 165.
-pub fn write_at(i: usize, row: u64, word: usize) {
+pub(crate) fn write_at(i: usize, row: u64, word: usize) {
     let mut room = [165; 2160];
     let length = build::given(row, tables::OUTPUT, 1080) as usize;
     show::head(b"write", i, word);
@@ -89,6 +89,6 @@ pub fn write_at(i: usize, row: u64, word: usize) {
     show_output(&room);
 }
 
-pub fn write(i: usize, row: u64) {
+pub(crate) fn write(i: usize, row: u64) {
     write_at(i, row, build::given(row, tables::WORD, 70) as usize);
 }
