@@ -20,7 +20,8 @@ use Rattle.packet_writer.specs.Write.{packetOf, writeRefusal}
 abbrev pub Covers : Type 0
 Covers = (k : ℕ) → k < 1080 → holders k packetColumns ≡ 1
 
--- what the types of the fields and arrays say of their values
+-- what the types of the fields and arrays say of their values, as far as a round trip needs it: a field of one byte is its own byte, and
+-- refusal 17 bounds the error status
 pub record Typed (f : PacketFields) (a : PacketArrays) : Type 0 where
   pub count-fits : f .count < 2 ^ 16
   pub time-fits : f .«coarse_time» < 2 ^ 32
