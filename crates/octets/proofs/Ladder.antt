@@ -60,6 +60,9 @@ unfolding _then_
 then-zero zero next e = (refl, e)
 then-zero (suc k) next e = absurd (omega arith)
 
+-- the rungs of a ladder, for `search`: each return of a function that climbs one
+pub ruleset rungs = (pass-eq, fail-eq, pass-le, fail-le, pass-within, fail-below, fail-above, then-fail, then-pass)
+
 -- a ladder that ends in 0 has passed its first condition, and the rest ends in 0
 pub passed : (b : Bool) (n next : ℕ) → (refuse (suc n) unless b else next) ≡ 0 → (b ≡ true) × (next ≡ 0)
 unfolding refuse_unless_else_

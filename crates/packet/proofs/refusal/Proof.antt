@@ -1,6 +1,6 @@
 -- Each return is one rung of the ladder.
 use mathlib.Core.Path.{sym, _∙_}
-use Rattle.octets.proofs.Ladder.{pass-eq, fail-eq, pass-within, fail-below, fail-above, then-fail, then-pass}
+use Rattle.octets.proofs.Ladder.{rungs}
 use Rattle.packet.specs.Read.{readRefusal}
 use borrow.Author.Needs.{needs}
 use Rattle.packet.proofs.refusal.Statement.{statement}
@@ -8,29 +8,29 @@ use Rattle.packet.proofs.refusal.Tie as tie
 
 returns : tie.Need-returns
 unfolding readRefusal
-returns c = search (pass-eq, fail-eq, pass-within, fail-below, fail-above, then-fail, then-pass) depth 10
+returns c = search rungs depth 10
 
 returns-2 : tie.Need-returns-2
 unfolding readRefusal
-returns-2 c = search (pass-eq, fail-eq, pass-within, fail-below, fail-above, then-fail, then-pass) depth 10
+returns-2 c = search rungs depth 10
 
 returns-3 : tie.Need-returns-3
 unfolding readRefusal
-returns-3 c = search (pass-eq, fail-eq, pass-within, fail-below, fail-above, then-fail, then-pass) depth 10
+returns-3 c = search rungs depth 10
 
 header-refusal-requires : tie.Need-header-refusal-requires
 header-refusal-requires c κs = search needs
 
 returns-4 : tie.Need-returns-4
 unfolding readRefusal
-returns-4 c = let h = c .before .header-refusal .ensures in search (pass-eq, fail-eq, pass-within, fail-below, fail-above, then-fail, then-pass) depth 10
+returns-4 c = let h = c .before .header-refusal .ensures in search rungs depth 10
 
 u8-at-requires : tie.Need-u8-at-requires
 u8-at-requires c κs = search needs
 
 returns-5 : tie.Need-returns-5
 unfolding readRefusal
-returns-5 c = let h = sym (c .before .before .before .header-refusal .ensures) ∙ c .before .before .if4 .left in rw (← c .before .u8-at .ensures) (search (pass-eq, fail-eq, pass-within, fail-below, fail-above, then-fail, then-pass) depth 10)
+returns-5 c = let h = sym (c .before .before .before .header-refusal .ensures) ∙ c .before .before .if4 .left in rw (← c .before .u8-at .ensures) (search rungs depth 10)
 
 packet-sum-requires : tie.Need-packet-sum-requires
 packet-sum-requires c κs = search needs
@@ -43,11 +43,11 @@ u16-at-requires c κs = search needs
 
 returns-6 : tie.Need-returns-6
 unfolding readRefusal
-returns-6 c = let h = sym (c .before .before .before .before .before .before .header-refusal .ensures) ∙ c .before .before .before .before .before .if4 .left in rw (← c .before .before .before .before .u8-at .ensures, ← c .before .before .packet-sum .ensures, ← c .before .u16-at .ensures) (search (pass-eq, fail-eq, pass-within, fail-below, fail-above, then-fail, then-pass) depth 10)
+returns-6 c = let h = sym (c .before .before .before .before .before .before .header-refusal .ensures) ∙ c .before .before .before .before .before .if4 .left in rw (← c .before .before .before .before .u8-at .ensures, ← c .before .before .packet-sum .ensures, ← c .before .u16-at .ensures) (search rungs depth 10)
 
 returns-7 : tie.Need-returns-7
 unfolding readRefusal
-returns-7 c = let h = sym (c .before .before .before .before .before .before .header-refusal .ensures) ∙ c .before .before .before .before .before .if4 .left in rw (← c .before .before .before .before .u8-at .ensures, ← c .before .before .packet-sum .ensures, ← c .before .u16-at .ensures) (search (pass-eq, fail-eq, pass-within, fail-below, fail-above, then-fail, then-pass) depth 10)
+returns-7 c = let h = sym (c .before .before .before .before .before .before .header-refusal .ensures) ∙ c .before .before .before .before .before .if4 .left in rw (← c .before .before .before .before .u8-at .ensures, ← c .before .before .packet-sum .ensures, ← c .before .u16-at .ensures) (search rungs depth 10)
 
 pub refusal-spec : {M : Type 1} → statement M
 refusal-spec =
