@@ -43,3 +43,7 @@ past-end s i k from e = go (decLe i (length s))
     go : Dec (i ≤ length s) → getD s (from + k) 0 ≡ getD s (i + k) 0
     go (yes h) = ap (λ (j : ℕ). getD s (j + k) 0) (omega arith)
     go (no h) = List·getD-eq-default s 0 (omega arith) ∙ sym (List·getD-eq-default s 0 (omega arith))
+
+-- and so may the first index of a number
+pub nat-end : (s : List ℕ) (i n from : ℕ) → from ≡ min i (length s) → natAt s from n ≡ natAt s i n
+nat-end s i n from e = nat-same s s from i n (λ k h. past-end s i k from e)

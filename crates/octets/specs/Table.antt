@@ -1,7 +1,9 @@
 -- A list given by a rule for each index.
-use Prim.Native.Nat.{ℕ, zero, suc, _+_}
+use Prim.Native.Nat.{ℕ, zero, suc, _+_, _*_}
 use mathlib.Core.List.{List, [], _∷_}
+use lib.IntN.{ℤ}
 use lib.ListN.{getD}
+use Rattle.octets.specs.Bytes.{natAt, intAt}
 
 -- f 0, f 1, .., f (n - 1)
 abbrev pub table : {A : Type 0} → ℕ → (ℕ → A) → List A
@@ -11,3 +13,10 @@ table (suc n) f = f 0 ∷ table n (λ k. f (suc k))
 -- the n bytes of s from index i on, a byte past the end being 0
 unfoldable pub octetsAt : List ℕ → ℕ → ℕ → List ℕ
 octetsAt s i n = table n (λ k. getD s (i + k) 0)
+
+-- the n numbers of w bytes each in s from index i on, unsigned and signed
+unfoldable pub natsAt : List ℕ → ℕ → ℕ → ℕ → List ℕ
+natsAt s i w n = table n (λ k. natAt s (i + w * k) w)
+
+unfoldable pub intsAt : List ℕ → ℕ → ℕ → ℕ → List ℤ
+intsAt s i w n = table n (λ k. intAt s (i + w * k) w)
