@@ -3,17 +3,25 @@ use Prim.Native.Nat.{ℕ, _+_, _*_}
 use mathlib.Core.Bool.{Bool, true, false, _&&_}
 use mathlib.Core.List.{List, [], _∷_, _++_}
 use lib.Dec.{eqb, leb, ltb}
-use Rattle.octets.specs.Bytes.{natAt, part}
-use Rattle.octets.specs.Table.{octetsAt}
+use lib.IntN.{ℤ}
+use Rattle.octets.specs.Bytes.{natAt, intAt, part}
+use Rattle.octets.specs.Table.{octetsAt, natsAt, intsAt}
 
--- a column: the index of its first byte, counted from 0, the bytes of each item, and the number of items
+-- whether the numbers of a column are unsigned or signed two's complement
+pub data Sign : Type 0 where
+  unsigned : Sign
+  complement : Sign
+
+-- a column: the index of its first byte, counted from 0, the bytes of each item, the number of items, and their sign
 pub record Column : Type 0 where
   pub start : ℕ
   pub width : ℕ
   pub items : ℕ
+  pub sign : Sign
 
+-- a column of unsigned numbers
 abbrev pub column : ℕ → ℕ → ℕ → Column
-column s w n = record { start = s; width = w; items = n }
+column s w n = record { start = s; width = w; items = n; sign = unsigned }
 
 abbrev pub size : Column → ℕ
 size c = c .width * c .items
@@ -38,6 +46,28 @@ number s c = natAt s (c .start) (c .width)
 
 abbrev pub octetsIn : List ℕ → Column → List ℕ
 octetsIn s c = octetsAt s (c .start) (c .items)
+
+-- a number as the column's sign has it: of one item, of item k from 0, of all items
+abbrev pub Number : Sign → Type 0
+Number unsigned = ℕ
+Number complement = ℤ
+
+abbrev pub numberAt : (g : Sign) → List ℕ → ℕ → ℕ → Number g
+numberAt unsigned s i w = natAt s i w
+numberAt complement s i w = intAt s i w
+
+abbrev pub numbersAt : (g : Sign) → List ℕ → ℕ → ℕ → ℕ → List (Number g)
+numbersAt unsigned s i w n = natsAt s i w n
+numbersAt complement s i w n = intsAt s i w n
+
+abbrev pub value : (s : List ℕ) (c : Column) → Number (c .sign)
+value s c = numberAt (c .sign) s (c .start) (c .width)
+
+abbrev pub item : (s : List ℕ) (c : Column) (k : ℕ) → Number (c .sign)
+item s c k = numberAt (c .sign) s (c .start + c .width * k) (c .width)
+
+abbrev pub values : (s : List ℕ) (c : Column) → List (Number (c .sign))
+values s c = numbersAt (c .sign) s (c .start) (c .width) (c .items)
 
 -- the bytes cut into their columns, and columns joined to bytes
 abbrev pub cut : List ℕ → List Column → List (List ℕ)
