@@ -1,0 +1,31 @@
+-- The two parts of the number by masks, and the counter.
+use Prim.Native.Nat.{ℕ, _/_, _%_}
+use mathlib.Core.Path.{ap, _∙_}
+use lib.Bits.{and-mask}
+use mir.Facts.{fits-mask}
+use Rattle.pedr_flags.specs.Quality.{qualityOf}
+use borrow.Author.Needs.{needs}
+use Rattle.pedr_flags.proofs.read_quality.Statement.{statement}
+use Rattle.pedr_flags.proofs.read_quality.Tie as tie
+
+u24-at-requires : tie.Need-u24-at-requires
+u24-at-requires c κs = search needs
+
+cast-t6 : tie.Need-cast-t6
+cast-t6 c = fits-mask (c .u24-at .result / 1048576) 4 tt
+
+u8-at-requires : tie.Need-u8-at-requires
+u8-at-requires c κs = search needs
+
+returns : tie.Need-returns
+unfolding qualityOf
+returns c =
+    let q = c .before .u24-at in
+    λ i. record {
+      good = (and-mask _ 20 ∙ ap (λ (x : ℕ). x % 1048576) (q .ensures)) i;
+      carried = (and-mask _ 4 ∙ ap (λ (x : ℕ). x / 1048576 % 16) (q .ensures)) i;
+      counter = c .u8-at .ensures i;
+    }
+
+pub read-quality-spec : {M : Type 1} → statement M
+read-quality-spec = tie.close (tie.spec u24-at-requires cast-t6 u8-at-requires returns)

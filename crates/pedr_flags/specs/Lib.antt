@@ -1,0 +1,4 @@
+pub mod Quality
+pub mod Descriptor
+pub mod Class
+pub mod Encoder

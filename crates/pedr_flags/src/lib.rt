@@ -1,0 +1,164 @@
+// The flags and codes of the PEDR record: quality, descriptor, class and encoder bits.
+ghost use mathlib.Core.Path.{_≡_};
+ghost use Prim.Native.Nat.{_<_, _≤_};
+ghost use Rattle.pedr_flags.specs.Quality.{goodShot, goodCount, qualityOf};
+ghost use Rattle.pedr_flags.specs.Descriptor.{failed, failedAt, descriptorOf, failuresOf};
+ghost use Rattle.pedr_flags.specs.Class.{classOf, classNumber};
+ghost use Rattle.pedr_flags.specs.Encoder.{encoderOf};
+
+// Bits 0 to 19 of the quality number, of which bit 20 - s is set for a good shot s; its bits 20 to 23, carried; the counter.
+pub struct Quality {
+    pub good: u32,
+    pub carried: u8,
+    pub counter: u8,
+}
+
+// The tests of the packet and frame, each true where it failed; bits 104 to 127 of the descriptor, carried.
+pub struct Descriptor {
+    pub packet_sum: bool,
+    pub software_sum: bool,
+    pub mode: bool,
+    pub ots: bool,
+    pub carried: u32,
+}
+
+// The tests of one shot, each true where it failed.
+pub struct ShotFailures {
+    pub power: bool,
+    pub energy: bool,
+    pub range: bool,
+    pub window: bool,
+    pub comparison: bool,
+}
+
+// What a shot met: false or no trigger (0), probable ground (1), or a number that is not assigned.
+pub enum Class {
+    NoTrigger,
+    ProbableGround,
+    Unassigned(u16),
+}
+
+// The two encoders' bits, with bits 2-3 and 6-7 of the byte, carried.
+pub struct Encoder {
+    pub start: u8,
+    pub carried_low: u8,
+    pub stop: u8,
+    pub carried_high: u8,
+}
+
+// How many shots are good by a quality number; its carried bits don't count.
+pub fn good_count(number: u32) -> u32
+    ensures { λ r. ⌜ r ≡ goodCount number ⌝ }
+{
+    u32::count_ones(number & 0xFFFFF)
+}
+
+// Whether a shot is good by a quality number; there is no shot but 1 to 20.
+pub fn is_good(number: u32, shot: usize) -> bool
+    ensures { λ r. ⌜ r ≡ goodShot number shot ⌝ }
+{
+    if shot < 1 {
+        return false;
+    }
+    if 20 < shot {
+        return false;
+    }
+    (number >> (20 - shot)) & 1 == 1
+}
+
+// The quality of a record's bytes.
+pub fn read_quality(bytes: &[u8]) -> Quality
+    ensures { λ r. ⌜ r ≡ qualityOf (now (bytes .entry)) ⌝ }
+{
+    let number = octets::u24_at(bytes, 28);
+    Quality {
+        good: number & 0xFFFFF,
+        carried: ((number >> 20) & 15) as u8,
+        counter: octets::u8_at(bytes, 31),
+    }
+}
+
+// Whether bit k of the descriptor is one.
+fn has_failed(bytes: &[u8], k: usize) -> bool
+    requires { ⌜ k < 128 ⌝ }
+    ensures { λ r. ⌜ r ≡ failed (now (bytes .entry)) k ⌝ }
+{
+    let byte = octets::u8_at(bytes, 48 - k / 8 - 1);
+    (byte >> (k % 8)) & 1 == 1
+}
+
+// The descriptor of a record's bytes, but for the tests of its shots.
+pub fn read_descriptor(bytes: &[u8]) -> Descriptor
+    ensures { λ r. ⌜ r ≡ descriptorOf (now (bytes .entry)) ⌝ }
+{
+    Descriptor {
+        packet_sum: has_failed(bytes, 0),
+        software_sum: has_failed(bytes, 1),
+        mode: has_failed(bytes, 2),
+        ots: has_failed(bytes, 3),
+        carried: octets::u24_at(bytes, 32),
+    }
+}
+
+// Whether a shot failed the test whose bits stand after bit first.
+fn has_failed_at(bytes: &[u8], first: usize, shot: usize) -> bool
+    requires { ⌜ first ≤ 83 ⌝ }
+    ensures { λ r. ⌜ r ≡ failedAt (now (bytes .entry)) first shot ⌝ }
+{
+    if shot < 1 {
+        return false;
+    }
+    if 20 < shot {
+        return false;
+    }
+    has_failed(bytes, first + shot)
+}
+
+// The tests of a shot by a record's bytes; there is no shot but 1 to 20.
+pub fn read_failures(bytes: &[u8], shot: usize) -> ShotFailures
+    ensures { λ r. ⌜ r ≡ failuresOf (now (bytes .entry)) shot ⌝ }
+{
+    ShotFailures {
+        power: has_failed_at(bytes, 3, shot),
+        energy: has_failed_at(bytes, 23, shot),
+        range: has_failed_at(bytes, 43, shot),
+        window: has_failed_at(bytes, 63, shot),
+        comparison: has_failed_at(bytes, 83, shot),
+    }
+}
+
+// The class of a number.
+pub fn class_of(number: u16) -> Class
+    ensures { λ r. ⌜ r ≡ classOf number ⌝ }
+{
+    if number == 0 {
+        return Class::NoTrigger;
+    }
+    if number == 1 {
+        return Class::ProbableGround;
+    }
+    Class::Unassigned(number)
+}
+
+// The number of a class.
+pub fn class_number(class: Class) -> u16
+    ensures { λ r. ⌜ r ≡ classNumber class ⌝ }
+{
+    match class {
+        Class::NoTrigger => 0,
+        Class::ProbableGround => 1,
+        Class::Unassigned(number) => number,
+    }
+}
+
+// The encoder bits of a byte.
+pub fn encoder_of(byte: u8) -> Encoder
+    ensures { λ r. ⌜ r ≡ encoderOf byte ⌝ }
+{
+    Encoder {
+        start: byte & 3,
+        carried_low: (byte >> 2) & 3,
+        stop: (byte >> 4) & 3,
+        carried_high: (byte >> 6) & 3,
+    }
+}
