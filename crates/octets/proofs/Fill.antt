@@ -1,12 +1,12 @@
 -- A list filled from the front by a loop, one element a turn, until it is a table: one law for every element type, length and rule.
 use Prim.Native.Nat.{ℕ, zero, suc, _+_, _<_, _≤_}
-use mathlib.Core.Path.{_≡_, refl, ap, _∙_}
+use mathlib.Core.Path.{_≡_, refl, sym, ap, _∙_}
 use mathlib.Core.List.{List, [], _∷_}
-use native.Mathlib.Nat.{not-suc-le-zero, le-of-suc-le-suc}
+use native.Mathlib.Nat.{not-suc-le-zero, le-of-suc-le-suc, one-mul}
 use native.Mathlib.Numerals.{add-one}
 use native.Mathlib.Omega.{arith}
 use lib.ListN.{length, getD, set}
-use Rattle.octets.specs.Table.{table}
+use Rattle.octets.specs.Table.{table, octetsAt, natsAt}
 
 -- the first j elements of the table of f, then the elements of d
 abbrev pub front : {A : Type 0} → (ℕ → A) → List A → ℕ → List A
@@ -53,3 +53,13 @@ pub table-at : {A : Type 0} (n : ℕ) (f : ℕ → A) (j : ℕ) (d : A) → j < 
 table-at zero f j d h = absurd (not-suc-le-zero h)
 table-at (suc n) f zero d h = refl
 table-at (suc n) f (suc j) d h = table-at n (λ k. f (suc k)) j d (le-of-suc-le-suc h)
+
+-- tables of rules that agree at each index are equal
+pub table-same : {A : Type 0} (n : ℕ) (f g : ℕ → A) → ((k : ℕ) → f k ≡ g k) → table n f ≡ table n g
+table-same zero f g e = refl
+table-same (suc n) f g e = let t = table-same n (λ k. f (suc k)) (λ k. g (suc k)) (λ k. e (suc k)) in λ i. e 0 i ∷ t i
+
+-- bytes are numbers of one byte each
+pub octets-numbers : (s : List ℕ) (i n : ℕ) → octetsAt s i n ≡ natsAt s i 1 n
+unfolding octetsAt natsAt
+octets-numbers s i n = table-same n _ _ (λ k. ap (λ (j : ℕ). getD s (i + j) 0) (sym (one-mul k)))

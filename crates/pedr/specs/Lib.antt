@@ -1,0 +1,4 @@
+pub mod Time
+pub mod Fields
+pub mod Arrays
+pub mod Read
