@@ -1,15 +1,26 @@
 -- Document 01, "Numbers to check by": the cases marked P, as one table. Each row is computed by the definitions that the contracts cite.
-use Prim.Native.Nat.{ℕ, _+_}
+use Prim.Native.Nat.{ℕ, suc, _+_, _-_, _^_}
 use mathlib.Core.Path.{_≡_}
-use mathlib.Core.List.{List}
+use mathlib.Core.Bool.{true, false}
+use mathlib.Core.List.{List, [], _∷_, _++_}
+use lib.IntN.{ℤ, pos, negℤ}
 use lib.ListN.{replicate}
 use Rattle.octets.specs.Bytes.{octetsOf, put}
+use Rattle.octets.specs.Table.{table}
+use Rattle.layout.specs.Column.{Column}
 use Rattle.checksum.specs.Sum.{wordAt}
 use Rattle.packet.specs.Bins.{binByte, firstBin}
 use Rattle.packet.specs.Fields.{noArrays}
 use Rattle.packet.specs.Read.{readRefusal}
 use Rattle.packet.specs.declared.PacketFields.{PacketFields}
 use Rattle.packet_writer.specs.Write.{packetOf}
+use Rattle.pedr_layout.specs.Layout.{timeWhole, timeMicros, qualityNumber, qualityCounter, frameIndex}
+use Rattle.pedr_flags.specs.Quality.{goodShot}
+use Rattle.pedr_flags.specs.Descriptor.{byteOfBit, placeOfBit}
+use Rattle.pedr_flags.specs.Encoder.{encoderOf}
+use Rattle.pedr.specs.Time.{timeInMicros}
+use Rattle.pedr.specs.Fields.{timeOf}
+use Rattle.pedr.specs.Read.{recordRefusal}
 
 -- the free fields of a packet with this count, all others zero
 unfoldable pub counted : ℕ → PacketFields
@@ -35,6 +46,25 @@ counted n = record {
 unfoldable pub zeroPacket : ℕ → List ℕ
 zeroPacket n = packetOf (counted n) noArrays (replicate 974 0) 53
 
+-- the bytes s with the number x in the column c, and with -x there
+infixl 4 _with_at_ _with-minus_at_
+
+abbrev pub _with_at_ : List ℕ → ℕ → Column → List ℕ
+s with x at c = put s (c .start) (octetsOf (c .width) x)
+
+abbrev pub _with-minus_at_ : List ℕ → ℕ → Column → List ℕ
+s with-minus x at c = s with (256 ^ (c .width) - x) at c
+
+-- a record of zeros but for frame index 1; with this quality number and counter; with this time, both parts negative
+unfoldable pub zeroRecord : List ℕ
+zeroRecord = replicate 776 0 with 1 at frameIndex
+
+unfoldable pub qualityRecord : ℕ → ℕ → List ℕ
+qualityRecord q n = zeroRecord with q at qualityNumber with n at qualityCounter
+
+unfoldable pub timeRecord : ℕ → ℕ → List ℕ
+timeRecord whole micros = zeroRecord with-minus whole at timeWhole with-minus micros at timeMicros
+
 pub record Numbers : Type 0 where
   -- count 0, place 53, all free bytes zero: sum 35 + 49,152 + 1,073 = 50,260
   pub sum-of-count-0 : wordAt (zeroPacket 0) 53 ≡ 50260
@@ -52,3 +82,21 @@ pub record Numbers : Type 0 where
   -- bin 0 is packet byte 57, bin 47 byte 102
   pub bin-0 : binByte 0 ≡ 57
   pub bin-47 : binByte 47 ≡ 102
+  -- quality 0x080001 with counter 2: shots 1 and 20
+  pub quality-accepted : recordRefusal (qualityRecord 0x080001 2) ≡ 0
+  pub quality-shots : table 20 (λ k. goodShot 0x080001 (suc k)) ≡ true ∷ (replicate 18 false ++ (true ∷ []))
+  -- 0x100000 with counter 0 is accepted
+  pub carried-bit-accepted : recordRefusal (qualityRecord 0x100000 0) ≡ 0
+  -- descriptor bit 23 is byte 46, bit 7
+  pub bit-23-byte : byteOfBit 23 ≡ 46
+  pub bit-23-place : placeOfBit 23 ≡ 7
+  -- encoder 0x21: start 1, stop 2
+  pub encoder-start : encoderOf 0x21 .start ≡ 1
+  pub encoder-stop : encoderOf 0x21 .stop ≡ 2
+  -- whole -187,606,958, µs -864,490: -187,606,958,864,490
+  pub time-accepted : recordRefusal (timeRecord 187606958 864490) ≡ 0
+  pub time-whole : timeOf (timeRecord 187606958 864490) .whole ≡ negℤ (pos 187606958)
+  pub time-micros : timeOf (timeRecord 187606958 864490) .micros ≡ negℤ (pos 864490)
+  pub time-in-micros : timeInMicros (timeOf (timeRecord 187606958 864490)) ≡ negℤ (pos 187606958864490)
+  -- µs -1,000,000 gives 13
+  pub micros-refused : recordRefusal (timeRecord 0 1000000) ≡ 13

@@ -7,12 +7,15 @@ use Rattle.packet.specs.Bins.{firstBin}
 use Rattle.packet.specs.Header.{headerRefusal}
 use Rattle.packet.specs.Read.{readRefusal}
 use Rattle.packet_writer.specs.Write.{histogramOf, unsummed, packetOf}
-use Rattle.worked.specs.Numbers.{counted, zeroPacket}
+use Rattle.numbers.specs.Bit.{bitsSet}
+use Rattle.pedr.specs.Fields.{timeOf}
+use Rattle.pedr.specs.Read.{recordRefusal}
+use Rattle.worked.specs.Numbers.{counted, zeroPacket, zeroRecord, qualityRecord, timeRecord}
 use Rattle.worked.proofs.worked_numbers.Statement.{statement}
 use Rattle.worked.proofs.worked_numbers.Tie as tie
 
 returns : tie.Need-returns
-unfolding put refuse_unless_else_ _then_ wordSum zeroed packetSum firstBin headerRefusal readRefusal histogramOf unsummed packetOf counted zeroPacket
+unfolding put refuse_unless_else_ _then_ wordSum zeroed packetSum firstBin headerRefusal readRefusal histogramOf unsummed packetOf counted zeroPacket zeroRecord qualityRecord timeRecord bitsSet timeOf recordRefusal
 returns c =
     record {
       sum-of-count-0 = refl;
@@ -27,6 +30,18 @@ returns c =
       hstart-1 = refl;
       bin-0 = refl;
       bin-47 = refl;
+      quality-accepted = refl;
+      quality-shots = refl;
+      carried-bit-accepted = refl;
+      bit-23-byte = refl;
+      bit-23-place = refl;
+      encoder-start = refl;
+      encoder-stop = refl;
+      time-accepted = refl;
+      time-whole = refl;
+      time-micros = refl;
+      time-in-micros = refl;
+      micros-refused = refl;
     }
 
 pub worked-numbers-spec : {M : Type 1} → statement M
