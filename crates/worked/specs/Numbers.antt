@@ -3,7 +3,7 @@ use Prim.Native.Nat.{ℕ, suc, _+_, _-_, _^_}
 use mathlib.Core.Path.{_≡_}
 use mathlib.Core.Bool.{true, false}
 use mathlib.Core.List.{List, [], _∷_, _++_}
-use lib.IntN.{ℤ, pos, negℤ}
+use lib.IntN.{pos, negℤ}
 use lib.ListN.{replicate}
 use Rattle.octets.specs.Bytes.{octetsOf, put}
 use Rattle.octets.specs.Table.{table}
@@ -48,7 +48,6 @@ zeroPacket n = packetOf (counted n) noArrays (replicate 974 0) 53
 
 -- the bytes s with the number x in the column c, and with -x there
 infixl 4 _with_at_ _with-minus_at_
-
 abbrev pub _with_at_ : List ℕ → ℕ → Column → List ℕ
 s with x at c = put s (c .start) (octetsOf (c .width) x)
 

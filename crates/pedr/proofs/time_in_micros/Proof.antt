@@ -6,7 +6,6 @@ use mir.Val.{SFits, toZ, ofZ}
 use mir.ValLaws.{toZ-ofZ}
 use mir.Facts.{sfits-widen}
 use Rattle.numbers.proofs.Ranges.{Range, of-width, of-sum, of-multiple, in-width, exact, reread}
-use Rattle.pedr.specs.declared.FrameTime.{FrameTime}
 use borrow.Author.Needs.{needs}
 use Rattle.pedr.proofs.time_in_micros.Statement.{statement}
 use Rattle.pedr.proofs.time_in_micros.Tie as tie

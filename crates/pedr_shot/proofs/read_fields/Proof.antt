@@ -1,5 +1,5 @@
 -- Field by field, each from its own read at the shot's item.
-use Prim.Native.Nat.{ℕ, _+_, _-_, _*_}
+use Prim.Native.Nat.{ℕ, _+_, _-_}
 use mathlib.Core.Path.{sym, ap, _∙_}
 use native.Mathlib.Nat.{one-mul}
 use denote.Ref.{now}

@@ -1,13 +1,12 @@
 -- One law of loops that fill a list, at the class of each shot.
-use Prim.Native.Nat.{ℕ, suc, _+_, _-_, _*_}
-use mathlib.Core.Path.{refl, sym, ap, _∙_}
+use Prim.Native.Nat.{ℕ, _-_}
+use mathlib.Core.Path.{refl, ap, _∙_}
 use mathlib.Core.List.{List}
 use denote.Ref.{now}
 use native.Mathlib.Omega.{arith}
 use Rattle.layout.specs.Column.{item}
 use Rattle.pedr_layout.specs.Layout.{class}
 use Rattle.pedr_flags.specs.Class.{classOf}
-use Rattle.pedr_flags.specs.declared.Class.{Class}
 use Rattle.pedr.specs.Arrays.{shotClass, classesOf}
 use Rattle.pedr.specs.declared.ShotClass.{ShotClass}
 use Rattle.octets.proofs.Fill.{Filled, fill-more, fill-done}
