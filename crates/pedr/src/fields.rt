@@ -7,14 +7,29 @@ use crate::Ranges;
 use crate::Receiver;
 use crate::RecordFields;
 ghost use mathlib.Core.Path.{_≡_};
+ghost use Rattle.layout.specs.Column.{value};
+ghost use Rattle.pedr_layout.specs.Layout.{timeMicros, latitude};
 ghost use Rattle.pedr.specs.Fields.{timeOf, positionOf, pointingOf, rangesOf, receiverOf, linkOf, fieldsOf};
+
+// The two columns that refusals 13 and 14 look at.
+pub(crate) fn micros(bytes: &[u8]) -> i32
+    ensures { λ r. ⌜ r ≡ value (now (bytes .entry)) timeMicros ⌝ }
+{
+    octets::i32_at(bytes, 4)
+}
+
+pub(crate) fn latitude(bytes: &[u8]) -> i32
+    ensures { λ r. ⌜ r ≡ value (now (bytes .entry)) latitude ⌝ }
+{
+    octets::i32_at(bytes, 12)
+}
 
 fn read_time(bytes: &[u8]) -> FrameTime
     ensures { λ r. ⌜ r ≡ timeOf (now (bytes .entry)) ⌝ }
 {
     FrameTime {
         whole: octets::i32_at(bytes, 0),
-        micros: octets::i32_at(bytes, 4),
+        micros: micros(bytes),
     }
 }
 
@@ -23,7 +38,7 @@ fn read_position(bytes: &[u8]) -> OrbitPosition
 {
     OrbitPosition {
         orbit: octets::u32_at(bytes, 8),
-        latitude: octets::i32_at(bytes, 12),
+        latitude: latitude(bytes),
         longitude: octets::i32_at(bytes, 16),
         radial_distance: octets::u32_at(bytes, 20),
         ground_latitude: octets::i32_at(bytes, 336),

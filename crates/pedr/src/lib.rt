@@ -139,10 +139,10 @@ pub fn record_refusal(bytes: &[u8]) -> u8
     if good != octets::u8_at(bytes, 31) as u32 {
         return 12;
     }
-    if !is_within(octets::i32_at(bytes, 4), 999_999) {
+    if !is_within(fields::micros(bytes), 999_999) {
         return 13;
     }
-    if !is_within(octets::i32_at(bytes, 12), 90_000_000) {
+    if !is_within(fields::latitude(bytes), 90_000_000) {
         return 14;
     }
     let frame_index = octets::u16_at(bytes, 490);

@@ -45,8 +45,8 @@ returns-2 c =
     let s = now (c .before .before .before .before .before .before .args .bytes) in
     rw (← c .before .before .before .u24-at .ensures, ← c .before .before .good-count .ensures, ← c .before .u8-at .ensures) (search rungs depth 10)
 
-i32-at-requires : tie.Need-i32-at-requires
-i32-at-requires c κs = search needs
+micros-requires : tie.Need-micros-requires
+micros-requires c κs = search needs
 
 is-within-requires : tie.Need-is-within-requires
 is-within-requires c κs = search needs
@@ -55,11 +55,11 @@ returns-3 : tie.Need-returns-3
 unfolding recordRefusal
 returns-3 c =
     let s = now (c .before .before .before .before .before .before .before .before .before .args .bytes) in
-    let m = beyond _ _ (intAt s 4 4) 999999 (c .before .is-within .ensures) (held w32 (c .before .before .i32-at .ok) (c .before .before .i32-at .ensures)) (not-true _ (c .if3 .taken)) in
+    let m = beyond _ _ (intAt s 4 4) 999999 (c .before .is-within .ensures) (held w32 (c .before .before .micros .ok) (c .before .before .micros .ensures)) (not-true _ (c .if3 .taken)) in
     rw (← c .before .before .before .before .before .before .u24-at .ensures, ← c .before .before .before .before .before .good-count .ensures, ← c .before .before .before .before .u8-at .ensures) (search rungs depth 10)
 
-i32-at-requires-2 : tie.Need-i32-at-requires-2
-i32-at-requires-2 c κs = search needs
+latitude-requires : tie.Need-latitude-requires
+latitude-requires c κs = search needs
 
 is-within-requires-2 : tie.Need-is-within-requires-2
 is-within-requires-2 c κs = search needs
@@ -68,8 +68,8 @@ returns-4 : tie.Need-returns-4
 unfolding recordRefusal
 returns-4 c =
     let s = now (c .before .before .before .before .before .before .before .before .before .before .before .before .args .bytes) in
-    let m = inside _ _ (intAt s 4 4) 999999 (c .before .before .before .before .is-within .ensures) (held w32 (c .before .before .before .before .before .i32-at .ok) (c .before .before .before .before .before .i32-at .ensures)) (not-false _ (c .before .before .before .if3 .left)) in
-    let l = beyond _ _ (intAt s 12 4) 90000000 (c .before .is-within2 .ensures) (held w32 (c .before .before .i32-at2 .ok) (c .before .before .i32-at2 .ensures)) (not-true _ (c .if4 .taken)) in
+    let m = inside _ _ (intAt s 4 4) 999999 (c .before .before .before .before .is-within .ensures) (held w32 (c .before .before .before .before .before .micros .ok) (c .before .before .before .before .before .micros .ensures)) (not-false _ (c .before .before .before .if3 .left)) in
+    let l = beyond _ _ (intAt s 12 4) 90000000 (c .before .is-within2 .ensures) (held w32 (c .before .before .latitude .ok) (c .before .before .latitude .ensures)) (not-true _ (c .if4 .taken)) in
     rw (← c .before .before .before .before .before .before .before .before .before .u24-at .ensures, ← c .before .before .before .before .before .before .before .before .good-count .ensures, ← c .before .before .before .before .before .before .before .u8-at .ensures) (search rungs depth 10)
 
 u16-at-requires : tie.Need-u16-at-requires
@@ -79,24 +79,24 @@ returns-5 : tie.Need-returns-5
 unfolding recordRefusal
 returns-5 c =
     let s = now (c .before .before .before .before .before .before .before .before .before .before .before .before .before .before .args .bytes) in
-    let m = inside _ _ (intAt s 4 4) 999999 (c .before .before .before .before .before .before .is-within .ensures) (held w32 (c .before .before .before .before .before .before .before .i32-at .ok) (c .before .before .before .before .before .before .before .i32-at .ensures)) (not-false _ (c .before .before .before .before .before .if3 .left)) in
-    let l = inside _ _ (intAt s 12 4) 90000000 (c .before .before .before .is-within2 .ensures) (held w32 (c .before .before .before .before .i32-at2 .ok) (c .before .before .before .before .i32-at2 .ensures)) (not-false _ (c .before .before .if4 .left)) in
+    let m = inside _ _ (intAt s 4 4) 999999 (c .before .before .before .before .before .before .is-within .ensures) (held w32 (c .before .before .before .before .before .before .before .micros .ok) (c .before .before .before .before .before .before .before .micros .ensures)) (not-false _ (c .before .before .before .before .before .if3 .left)) in
+    let l = inside _ _ (intAt s 12 4) 90000000 (c .before .before .before .is-within2 .ensures) (held w32 (c .before .before .before .before .latitude .ok) (c .before .before .before .before .latitude .ensures)) (not-false _ (c .before .before .if4 .left)) in
     rw (← c .before .before .before .before .before .before .before .before .before .before .before .u24-at .ensures, ← c .before .before .before .before .before .before .before .before .before .before .good-count .ensures, ← c .before .before .before .before .before .before .before .before .before .u8-at .ensures, ← c .before .u16-at .ensures) (search rungs depth 10)
 
 returns-6 : tie.Need-returns-6
 unfolding recordRefusal
 returns-6 c =
     let s = now (c .before .before .before .before .before .before .before .before .before .before .before .before .before .before .before .args .bytes) in
-    let m = inside _ _ (intAt s 4 4) 999999 (c .before .before .before .before .before .before .before .is-within .ensures) (held w32 (c .before .before .before .before .before .before .before .before .i32-at .ok) (c .before .before .before .before .before .before .before .before .i32-at .ensures)) (not-false _ (c .before .before .before .before .before .before .if3 .left)) in
-    let l = inside _ _ (intAt s 12 4) 90000000 (c .before .before .before .before .is-within2 .ensures) (held w32 (c .before .before .before .before .before .i32-at2 .ok) (c .before .before .before .before .before .i32-at2 .ensures)) (not-false _ (c .before .before .before .if4 .left)) in
+    let m = inside _ _ (intAt s 4 4) 999999 (c .before .before .before .before .before .before .before .is-within .ensures) (held w32 (c .before .before .before .before .before .before .before .before .micros .ok) (c .before .before .before .before .before .before .before .before .micros .ensures)) (not-false _ (c .before .before .before .before .before .before .if3 .left)) in
+    let l = inside _ _ (intAt s 12 4) 90000000 (c .before .before .before .before .is-within2 .ensures) (held w32 (c .before .before .before .before .before .latitude .ok) (c .before .before .before .before .before .latitude .ensures)) (not-false _ (c .before .before .before .if4 .left)) in
     rw (← c .before .before .before .before .before .before .before .before .before .before .before .before .u24-at .ensures, ← c .before .before .before .before .before .before .before .before .before .before .before .good-count .ensures, ← c .before .before .before .before .before .before .before .before .before .before .u8-at .ensures, ← c .before .before .u16-at .ensures) (search rungs depth 10)
 
 returns-7 : tie.Need-returns-7
 unfolding recordRefusal
 returns-7 c =
     let s = now (c .before .before .before .before .before .before .before .before .before .before .before .before .before .before .before .args .bytes) in
-    let m = inside _ _ (intAt s 4 4) 999999 (c .before .before .before .before .before .before .before .is-within .ensures) (held w32 (c .before .before .before .before .before .before .before .before .i32-at .ok) (c .before .before .before .before .before .before .before .before .i32-at .ensures)) (not-false _ (c .before .before .before .before .before .before .if3 .left)) in
-    let l = inside _ _ (intAt s 12 4) 90000000 (c .before .before .before .before .is-within2 .ensures) (held w32 (c .before .before .before .before .before .i32-at2 .ok) (c .before .before .before .before .before .i32-at2 .ensures)) (not-false _ (c .before .before .before .if4 .left)) in
+    let m = inside _ _ (intAt s 4 4) 999999 (c .before .before .before .before .before .before .before .is-within .ensures) (held w32 (c .before .before .before .before .before .before .before .before .micros .ok) (c .before .before .before .before .before .before .before .before .micros .ensures)) (not-false _ (c .before .before .before .before .before .before .if3 .left)) in
+    let l = inside _ _ (intAt s 12 4) 90000000 (c .before .before .before .before .is-within2 .ensures) (held w32 (c .before .before .before .before .before .latitude .ok) (c .before .before .before .before .before .latitude .ensures)) (not-false _ (c .before .before .before .if4 .left)) in
     rw (← c .before .before .before .before .before .before .before .before .before .before .before .before .u24-at .ensures, ← c .before .before .before .before .before .before .before .before .before .before .before .good-count .ensures, ← c .before .before .before .before .before .before .before .before .before .before .u8-at .ensures, ← c .before .before .u16-at .ensures) (search rungs depth 10)
 
 pub record-refusal-spec : {M : Type 1} → statement M
@@ -109,10 +109,10 @@ record-refusal-spec =
     u8-at-requires
     cast-if2
     returns-2
-    i32-at-requires
+    micros-requires
     is-within-requires
     returns-3
-    i32-at-requires-2
+    latitude-requires
     is-within-requires-2
     returns-4
     u16-at-requires
