@@ -1,5 +1,6 @@
 pub mod Fill
 pub mod Read
+pub mod Numbers
 pub mod Store
 pub mod Ladder
 pub mod Codec

@@ -74,7 +74,7 @@ pub struct RecordFields {
     pub link: PacketLink,
 }
 
-// The class of one shot: an array may hold structs, not enums.
+// The class of one shot. A struct's array may hold structs, not enums.
 pub struct ShotClass {
     pub class: Class,
 }

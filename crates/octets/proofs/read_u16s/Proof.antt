@@ -1,19 +1,15 @@
--- One law of loops that fill a list, at the numbers of two bytes from index i on.
-use Prim.Native.Nat.{_+_, _-_, _*_, min}
-use mathlib.Core.Path.{_≡_, _∙_, refl}
+-- The law of loops that read numbers, at two bytes each.
+use Prim.Native.Nat.{_-_}
 use denote.Ref.{now}
 use native.Mathlib.Omega.{arith}
-use lib.ListN.{length, length-set}
-use Rattle.octets.specs.Bytes.{natAt}
-use Rattle.octets.specs.Table.{natsAt}
-use Rattle.octets.proofs.Fill.{Filled, fill-more, fill-done}
-use Rattle.octets.proofs.Read.{nat-end}
+use lib.ListN.{length}
+use Rattle.octets.proofs.Numbers.{Reading, reading-none, reading-more, reading-done}
 use borrow.Author.Needs.{needs}
 use Rattle.octets.proofs.read_u16s.Statement.{statement}
 use Rattle.octets.proofs.read_u16s.Tie as tie
 
 abbrev Inv-loop : tie.InvT-loop
-Inv-loop bytes i out₀ at₀ k₀ out at k = (at ≡ min (i + 2 * k) (length bytes)) × (length out ≡ length out₀) × Filled (λ k. natAt bytes (i + 2 * k) 2) out₀ out k
+Inv-loop bytes i out₀ at₀ k₀ out at k = Reading bytes i 2 out₀ out at k
 
 abbrev μ-loop : tie.MeasureT-loop
 μ-loop bytes i out₀ at₀ k₀ out at k = length out₀ - k
@@ -22,7 +18,7 @@ least-requires : tie.Need-least-requires Inv-loop μ-loop
 least-requires c κs = omega arith
 
 loop-holds : tie.Need-loop-holds Inv-loop μ-loop
-loop-holds c = let e = c .least .ensures in (omega (arith, e), refl, (omega arith, refl))
+loop-holds c = reading-none (now (c .before .before .before .args .bytes)) _ 2 _ _ (c .least .ensures)
 
 u16-at-requires : tie.Need-u16-at-requires Inv-loop μ-loop
 u16-at-requires c κs = omega arith
@@ -49,22 +45,17 @@ loop-again : tie.Need-loop-again Inv-loop μ-loop
 loop-again c =
     let l = c .before .before .before .loop in
     let a = c .before .before .before .before .before .before .before .args in
-    let v = c .before .u16-at .ensures ∙ nat-end (now (a .bytes)) (a .i + 2 * l .k) 2 _ (l .inv .0) in
-    let h = c .before .before .loop-test .taken in (
-      omega (arith, l .inv .0, c .least2 .ensures),
-      rw length-set (l .inv .1),
-      fill-more (λ k. natAt (now (a .bytes)) (a .i + 2 * k) 2) (now (a .out)) (l .out) (l .k) _ (omega arith) v (l .inv .2),
-    )
+    let h = c .before .before .loop-test .taken in
+    reading-more (now (a .bytes)) (a .i) 2 (now (a .out)) (l .out) (l .at) (l .k) _ _ (omega arith) (c .before .u16-at .ensures) (c .least2 .ensures) (l .inv)
 
 same-length : tie.Need-same-length Inv-loop μ-loop
 same-length c = c .before .loop .inv .1
 
 returns : tie.Need-returns Inv-loop μ-loop
-unfolding natsAt
 returns c =
     let l = c .before .loop in
     let a = c .before .before .before .before .before .args in
-    fill-done (λ k. natAt (now (a .bytes)) (a .i + 2 * k) 2) (now (a .out)) (l .out) (l .k) (omega arith) (l .inv .2)
+    reading-done (now (a .bytes)) (a .i) 2 (now (a .out)) (l .out) (l .at) (l .k) (omega arith) (l .inv)
 
 pub read-u16s-spec : {M : Type 1} → statement M
 read-u16s-spec =
