@@ -40,14 +40,7 @@ unfoldable pub holders : ℕ → List Column → ℕ
 holders k [] = 0
 holders k (c ∷ cs) = one (leb (c .start) k && ltb k (c .start + size c)) + holders k cs
 
--- the number in a column of one item, and the bytes of a column of bytes
-abbrev pub number : List ℕ → Column → ℕ
-number s c = natAt s (c .start) (c .width)
-
-abbrev pub octetsIn : List ℕ → Column → List ℕ
-octetsIn s c = octetsAt s (c .start) (c .items)
-
--- a number as the column's sign has it: of one item, of item k from 0, of all items
+-- a number by its sign, and n of them
 abbrev pub Number : Sign → Type 0
 Number unsigned = ℕ
 Number complement = ℤ
@@ -60,6 +53,7 @@ abbrev pub numbersAt : (g : Sign) → List ℕ → ℕ → ℕ → ℕ → List 
 numbersAt unsigned s i w n = natsAt s i w n
 numbersAt complement s i w n = intsAt s i w n
 
+-- the number in a column of one item, that of item k from 0, and those of all items
 abbrev pub value : (s : List ℕ) (c : Column) → Number (c .sign)
 value s c = numberAt (c .sign) s (c .start) (c .width)
 
@@ -68,6 +62,10 @@ item s c k = numberAt (c .sign) s (c .start + c .width * k) (c .width)
 
 abbrev pub values : (s : List ℕ) (c : Column) → List (Number (c .sign))
 values s c = numbersAt (c .sign) s (c .start) (c .width) (c .items)
+
+-- the bytes of a column of bytes
+abbrev pub octetsIn : List ℕ → Column → List ℕ
+octetsIn s c = octetsAt s (c .start) (c .items)
 
 -- the bytes cut into their columns, and columns joined to bytes
 abbrev pub cut : List ℕ → List Column → List (List ℕ)

@@ -5,7 +5,7 @@ use mathlib.Core.List.{List}
 use lib.ListN.{length}
 use borrow.Author.Tests.{eqb-true}
 use Rattle.octets.proofs.Ladder.{passed, pass-eq, pass-within, then-pass, then-zero, within-true}
-use Rattle.layout.specs.Column.{number}
+use Rattle.layout.specs.Column.{value}
 use Rattle.checksum.specs.Sum.{packetSum, wordAt}
 use Rattle.packet.specs.Layout.{packetLength, packetType}
 use Rattle.packet.specs.Header.{version, spare, flag, instrument, segmentation, headerRefusal}
@@ -20,8 +20,8 @@ pub record Accepted (bs : List ℕ) (w : ℕ) : Type 0 where
   pub flag-is : flag bs ≡ 0
   pub instrument-is : instrument bs ≡ 35
   pub segmentation-is : segmentation bs ≡ 3
-  pub length-is : number bs packetLength ≡ 1073
-  pub type-is : number bs packetType ≡ 0
+  pub length-is : value bs packetLength ≡ 1073
+  pub type-is : value bs packetType ≡ 0
   pub sum-is : packetSum bs w ≡ wordAt bs w
 
 pub accepted : (bs : List ℕ) (w : ℕ) → readRefusal bs w ≡ 0 → Accepted bs w

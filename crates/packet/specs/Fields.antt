@@ -3,7 +3,7 @@ use Prim.Native.Nat.{ℕ}
 use mathlib.Core.List.{List}
 use lib.ListN.{replicate}
 use Rattle.octets.specs.Bytes.{part}
-use Rattle.layout.specs.Column.{number, octetsIn}
+use Rattle.layout.specs.Column.{value, octetsIn}
 use Rattle.packet.specs.Layout as columns
 use Rattle.packet.specs.Header.{errorStatus, count}
 use Rattle.packet.specs.Bins.{binsOf}
@@ -15,19 +15,19 @@ unfoldable pub fieldsOf : List ℕ → PacketFields
 fieldsOf bs = record {
   «error_status» = errorStatus bs;
   count = count bs;
-  «coarse_time» = number bs columns.coarseTime;
-  «fine_time» = number bs columns.fineTime;
-  «status_register» = number bs columns.statusRegister;
-  «software_version» = number bs columns.softwareVersion;
-  «ram_flag_word» = number bs columns.ramFlagWord;
-  «status_word_1» = number bs columns.statusWord1;
-  «status_word_2» = number bs columns.statusWord2;
-  «software_checksum» = number bs columns.softwareChecksum;
-  «commands_received» = number bs columns.commandsReceived;
-  «command_errors» = number bs columns.commandErrors;
-  «transmitter_threshold» = number bs columns.transmitterThreshold;
-  «tracking_status» = number bs columns.trackingStatus;
-  hstart = number bs columns.hstart;
+  «coarse_time» = value bs columns.coarseTime;
+  «fine_time» = value bs columns.fineTime;
+  «status_register» = value bs columns.statusRegister;
+  «software_version» = value bs columns.softwareVersion;
+  «ram_flag_word» = value bs columns.ramFlagWord;
+  «status_word_1» = value bs columns.statusWord1;
+  «status_word_2» = value bs columns.statusWord2;
+  «software_checksum» = value bs columns.softwareChecksum;
+  «commands_received» = value bs columns.commandsReceived;
+  «command_errors» = value bs columns.commandErrors;
+  «transmitter_threshold» = value bs columns.transmitterThreshold;
+  «tracking_status» = value bs columns.trackingStatus;
+  hstart = value bs columns.hstart;
 }
 
 -- the fields that are arrays

@@ -5,29 +5,29 @@ use mathlib.Core.List.{List}
 use lib.Dec.{eqb}
 use Rattle.octets.specs.Bytes.{bitsAt}
 use Rattle.octets.specs.Refusal.{refuse_unless_else_}
-use Rattle.layout.specs.Column.{number}
+use Rattle.layout.specs.Column.{value}
 use Rattle.packet.specs.Layout.{packetId, sequenceControl, packetLength}
 
 abbrev pub version : List ℕ → ℕ
-version bs = bitsAt (number bs packetId) 13 3
+version bs = bitsAt (value bs packetId) 13 3
 
 abbrev pub spare : List ℕ → ℕ
-spare bs = bitsAt (number bs packetId) 12 1
+spare bs = bitsAt (value bs packetId) 12 1
 
 abbrev pub flag : List ℕ → ℕ
-flag bs = bitsAt (number bs packetId) 11 1
+flag bs = bitsAt (value bs packetId) 11 1
 
 abbrev pub errorStatus : List ℕ → ℕ
-errorStatus bs = bitsAt (number bs packetId) 8 3
+errorStatus bs = bitsAt (value bs packetId) 8 3
 
 abbrev pub instrument : List ℕ → ℕ
-instrument bs = bitsAt (number bs packetId) 0 8
+instrument bs = bitsAt (value bs packetId) 0 8
 
 abbrev pub segmentation : List ℕ → ℕ
-segmentation bs = bitsAt (number bs sequenceControl) 14 2
+segmentation bs = bitsAt (value bs sequenceControl) 14 2
 
 abbrev pub count : List ℕ → ℕ
-count bs = bitsAt (number bs sequenceControl) 0 14
+count bs = bitsAt (value bs sequenceControl) 0 14
 
 -- refusals 3 to 8: version, spare, flag, instrument not as fixed; segmentation not 3; length not 1,073
 unfoldable pub headerRefusal : List ℕ → ℕ
@@ -37,5 +37,5 @@ headerRefusal bs =
     refuse 5 unless eqb (flag bs) 0 else
     refuse 6 unless eqb (instrument bs) 35 else
     refuse 7 unless eqb (segmentation bs) 3 else
-    refuse 8 unless eqb (number bs packetLength) 1073 else
+    refuse 8 unless eqb (value bs packetLength) 1073 else
     0

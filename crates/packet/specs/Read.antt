@@ -4,7 +4,7 @@ use mathlib.Core.List.{List}
 use lib.Dec.{eqb}
 use lib.ListN.{length}
 use Rattle.octets.specs.Refusal.{refuse_unless_else_, _then_, within, Said, refused, answered, say, after}
-use Rattle.layout.specs.Column.{number}
+use Rattle.layout.specs.Column.{value}
 use Rattle.checksum.specs.Sum.{packetSum, wordAt}
 use Rattle.packet.specs.Layout.{packetType}
 use Rattle.packet.specs.Header.{headerRefusal}
@@ -20,7 +20,7 @@ readRefusal bs w =
     refuse 1 unless eqb (length bs) 1080 else
     refuse 2 unless within 53 539 w else
     headerRefusal bs then
-    refuse 9 unless eqb (number bs packetType) 0 else
+    refuse 9 unless eqb (value bs packetType) 0 else
     refuse 10 unless eqb (packetSum bs w) (wordAt bs w) else
     0
 

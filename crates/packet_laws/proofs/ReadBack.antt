@@ -9,7 +9,7 @@ use Rattle.octets.specs.Bytes.{octetsOf, put}
 use Rattle.octets.proofs.Codec.{octets-part, part-at, read-one, read-write}
 use Rattle.octets.proofs.Ladder.{say-answered, after-done}
 use Rattle.octets.proofs.Store.{put-length, put-over, put-there}
-use Rattle.layout.specs.Column.{number, cut}
+use Rattle.layout.specs.Column.{value, cut}
 use Rattle.checksum.specs.Sum.{packetSum, wordAt, wordSum, zeroed}
 use Rattle.checksum.proofs.Sum.{sum-lt}
 use Rattle.packet.specs.Layout as columns
@@ -32,23 +32,23 @@ module _ (f : PacketFields) (a : PacketArrays) (y bs : List ℕ) (t : Typed f a)
   col : (k : ℕ) → getD (cut bs columns.packetColumns) k [] ≡ getD (partsOf f a y) k []
   col k = ap (λ (ps : List (List ℕ)). getD ps k []) cuts
 
-  id-is : number bs columns.packetId ≡ idWord f
+  id-is : value bs columns.packetId ≡ idWord f
   id-is = read-write 2 bs 0 (idWord f) (col 0) (omega arith)
 
-  sequence-is : number bs columns.sequenceControl ≡ sequenceWord f
+  sequence-is : value bs columns.sequenceControl ≡ sequenceWord f
   sequence-is = read-write 2 bs 2 (sequenceWord f) (col 1) (omega arith)
 
-  length-is : number bs columns.packetLength ≡ 1073
+  length-is : value bs columns.packetLength ≡ 1073
   length-is = read-write 2 bs 4 1073 (col 2) (omega arith)
 
-  type-is : number bs columns.packetType ≡ 0
+  type-is : value bs columns.packetType ≡ 0
   type-is = read-one bs 11 0 (col 5)
 
   fields-are : fieldsOf bs ≡ f
   unfolding fieldsOf
   fields-are =
-      let error : number bs columns.packetId / 256 % 8 ≡ f .«error_status» = ap (λ (n : ℕ). n / 256 % 8) id-is ∙ omega arith in
-      let count : number bs columns.sequenceControl % 16384 ≡ f .count = ap (λ (n : ℕ). n % 16384) sequence-is ∙ omega arith in
+      let error : value bs columns.packetId / 256 % 8 ≡ f .«error_status» = ap (λ (n : ℕ). n / 256 % 8) id-is ∙ omega arith in
+      let count : value bs columns.sequenceControl % 16384 ≡ f .count = ap (λ (n : ℕ). n % 16384) sequence-is ∙ omega arith in
       λ i. record {
         «error_status» = error i;
         count = count i;

@@ -13,7 +13,7 @@ use Rattle.octets.proofs.Codec.{octets-part, part-at, part-length, part-one, wr
 use Rattle.octets.proofs.Ladder.{pass-eq, pass-le, pass-within, then-fail, then-pass}
 use Rattle.octets.proofs.Read.{nat-lt}
 use Rattle.octets.proofs.Store.{put-same}
-use Rattle.layout.specs.Column.{number, cut, join}
+use Rattle.layout.specs.Column.{value, cut, join}
 use Rattle.layout.proofs.Cover.{join-cut}
 use Rattle.checksum.specs.Sum.{packetSum}
 use Rattle.packet.specs.Layout as columns
@@ -60,14 +60,14 @@ module _ (bs : List ℕ) (w : ℕ) (o : Octets bs) (z : readRefusal bs w ≡ 0) 
   byte-of : (i x : ℕ) → i < 1080 → x ≡ getD bs i 0 → x ∷ [] ≡ part bs i 1
   byte-of i x h e = ap (λ (b : ℕ). b ∷ []) e ∙ sym (part-one bs i (rw size h))
 
-  id-of : idWord (fieldsOf bs) ≡ number bs columns.packetId
+  id-of : idWord (fieldsOf bs) ≡ value bs columns.packetId
   unfolding fieldsOf
   id-of =
-      id-whole (number bs columns.packetId) (a .version-is) (a .spare-is) (a .flag-is) (a .instrument-is) (nat-lt bs 0 2 o)
+      id-whole (value bs columns.packetId) (a .version-is) (a .spare-is) (a .flag-is) (a .instrument-is) (nat-lt bs 0 2 o)
 
-  sequence-of : sequenceWord (fieldsOf bs) ≡ number bs columns.sequenceControl
+  sequence-of : sequenceWord (fieldsOf bs) ≡ value bs columns.sequenceControl
   unfolding fieldsOf
-  sequence-of = sequence-whole (number bs columns.sequenceControl) (a .segmentation-is) (nat-lt bs 2 2 o)
+  sequence-of = sequence-whole (value bs columns.sequenceControl) (a .segmentation-is) (nat-lt bs 2 2 o)
 
   histogram-of : histogramOf (binsOf bs) ≡ part bs 56 48
   histogram-of =
