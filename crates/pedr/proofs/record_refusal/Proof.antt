@@ -2,16 +2,19 @@
 use Prim.Native.Nat.{ℕ, _<_, _≤_}
 use mathlib.Core.Path.{_≡_, sym, ap, _∙_}
 use mathlib.Core.Bool.{Bool, true, false}
+use mathlib.Core.List.{List}
 use denote.Ref.{now}
 use lib.Dec.{leb}
 use lib.IntN.{ℤ, natAbs}
 use mir.Syntax.{w32}
+use borrow.Author.Needs.{needs}
 use borrow.Author.Tests.{leb-true, leb-false, not-true, not-false}
 use Rattle.numbers.proofs.Ranges.{held}
-use Rattle.octets.specs.Bytes.{intAt}
 use Rattle.octets.proofs.Ladder.{rungs}
+use Rattle.layout.specs.Column.{value}
+use Rattle.pedr_layout.specs.Layout.{timeMicros, latitude, qualityNumber, qualityCounter}
+use Rattle.pedr_flags.specs.Quality.{goodCount}
 use Rattle.pedr.specs.Read.{recordRefusal}
-use borrow.Author.Needs.{needs}
 use Rattle.pedr.proofs.record_refusal.Statement.{statement}
 use Rattle.pedr.proofs.record_refusal.Tie as tie
 
@@ -22,6 +25,29 @@ module _ (r : Bool) (x y : ℤ) (n : ℕ) (tested : r ≡ leb (natAbs x) n) (rea
 
   beyond : r ≡ false → n < natAbs y
   beyond e = leb-false (natAbs y) n (ap (λ (z : ℤ). leb (natAbs z) n) (sym read) ∙ sym tested ∙ e)
+
+-- the record's bytes where its counter has been read, and what each test that it passed shows of them
+abbrev record-at : tie.After-u8-at → List ℕ
+record-at c = now (c .before .before .before .before .before .args .bytes)
+
+good-is : (c : tie.After-u8-at) → c .before .good-count .result ≡ goodCount (value (record-at c) qualityNumber)
+good-is c = c .before .good-count .ensures ∙ ap goodCount (c .before .before .u24-at .ensures)
+
+counted : (c : tie.Else2) → goodCount (value (record-at (c .before)) qualityNumber) ≡ value (record-at (c .before)) qualityCounter
+counted c = sym (good-is (c .before)) ∙ c .if2 .left ∙ c .before .u8-at .ensures
+
+miscounted : (c : tie.Then2) → goodCount (value (record-at (c .before)) qualityNumber) ≡ value (record-at (c .before)) qualityCounter → ⊥
+miscounted c e = c .if2 .taken (good-is (c .before) ∙ e ∙ sym (c .before .u8-at .ensures))
+
+micros-inside : (c : tie.Else3) → natAbs (value (record-at (c .before .before .before .before)) timeMicros) ≤ 999999
+micros-inside c =
+    let m = c .before .before .micros in
+    inside _ _ _ 999999 (c .before .is-within .ensures) (held w32 (m .ok) (m .ensures)) (not-false _ (c .if3 .left))
+
+latitude-inside : (c : tie.Else4) → natAbs (value (record-at (c .before .before .before .before .before .before .before)) latitude) ≤ 90000000
+latitude-inside c =
+    let l = c .before .before .latitude in
+    inside _ _ _ 90000000 (c .before .is-within2 .ensures) (held w32 (l .ok) (l .ensures)) (not-false _ (c .if4 .left))
 
 returns : tie.Need-returns
 unfolding recordRefusal
@@ -42,8 +68,8 @@ cast-if2 c = search needs
 returns-2 : tie.Need-returns-2
 unfolding recordRefusal
 returns-2 c =
-    let s = now (c .before .before .before .before .before .before .args .bytes) in
-    rw (← c .before .before .before .u24-at .ensures, ← c .before .before .good-count .ensures, ← c .before .u8-at .ensures) (search rungs depth 10)
+    let n = miscounted c in
+    search rungs depth 10
 
 micros-requires : tie.Need-micros-requires
 micros-requires c κs = search needs
@@ -54,9 +80,10 @@ is-within-requires c κs = search needs
 returns-3 : tie.Need-returns-3
 unfolding recordRefusal
 returns-3 c =
-    let s = now (c .before .before .before .before .before .before .before .before .before .args .bytes) in
-    let m = beyond _ _ (intAt s 4 4) 999999 (c .before .is-within .ensures) (held w32 (c .before .before .micros .ok) (c .before .before .micros .ensures)) (not-true _ (c .if3 .taken)) in
-    rw (← c .before .before .before .before .before .before .u24-at .ensures, ← c .before .before .before .before .before .good-count .ensures, ← c .before .before .before .before .u8-at .ensures) (search rungs depth 10)
+    let q = counted (c .before .before .before) in
+    let m = c .before .before .micros in
+    let n = beyond _ _ _ 999999 (c .before .is-within .ensures) (held w32 (m .ok) (m .ensures)) (not-true _ (c .if3 .taken)) in
+    search rungs depth 10
 
 latitude-requires : tie.Need-latitude-requires
 latitude-requires c κs = search needs
@@ -67,10 +94,12 @@ is-within-requires-2 c κs = search needs
 returns-4 : tie.Need-returns-4
 unfolding recordRefusal
 returns-4 c =
-    let s = now (c .before .before .before .before .before .before .before .before .before .before .before .before .args .bytes) in
-    let m = inside _ _ (intAt s 4 4) 999999 (c .before .before .before .before .is-within .ensures) (held w32 (c .before .before .before .before .before .micros .ok) (c .before .before .before .before .before .micros .ensures)) (not-false _ (c .before .before .before .if3 .left)) in
-    let l = beyond _ _ (intAt s 12 4) 90000000 (c .before .is-within2 .ensures) (held w32 (c .before .before .latitude .ok) (c .before .before .latitude .ensures)) (not-true _ (c .if4 .taken)) in
-    rw (← c .before .before .before .before .before .before .before .before .before .u24-at .ensures, ← c .before .before .before .before .before .before .before .before .good-count .ensures, ← c .before .before .before .before .before .before .before .u8-at .ensures) (search rungs depth 10)
+    let c3 = c .before .before .before in
+    let q = counted (c3 .before .before .before) in
+    let m = micros-inside c3 in
+    let l = c .before .before .latitude in
+    let n = beyond _ _ _ 90000000 (c .before .is-within2 .ensures) (held w32 (l .ok) (l .ensures)) (not-true _ (c .if4 .taken)) in
+    search rungs depth 10
 
 u16-at-requires : tie.Need-u16-at-requires
 u16-at-requires c κs = search needs
@@ -78,26 +107,35 @@ u16-at-requires c κs = search needs
 returns-5 : tie.Need-returns-5
 unfolding recordRefusal
 returns-5 c =
-    let s = now (c .before .before .before .before .before .before .before .before .before .before .before .before .before .before .args .bytes) in
-    let m = inside _ _ (intAt s 4 4) 999999 (c .before .before .before .before .before .before .is-within .ensures) (held w32 (c .before .before .before .before .before .before .before .micros .ok) (c .before .before .before .before .before .before .before .micros .ensures)) (not-false _ (c .before .before .before .before .before .if3 .left)) in
-    let l = inside _ _ (intAt s 12 4) 90000000 (c .before .before .before .is-within2 .ensures) (held w32 (c .before .before .before .before .latitude .ok) (c .before .before .before .before .latitude .ensures)) (not-false _ (c .before .before .if4 .left)) in
-    rw (← c .before .before .before .before .before .before .before .before .before .before .before .u24-at .ensures, ← c .before .before .before .before .before .before .before .before .before .before .good-count .ensures, ← c .before .before .before .before .before .before .before .before .before .u8-at .ensures, ← c .before .u16-at .ensures) (search rungs depth 10)
+    let f = c .before .u16-at .ensures in
+    let c4 = c .before .before in
+    let c3 = c4 .before .before .before in
+    let q = counted (c3 .before .before .before) in
+    let m = micros-inside c3 in
+    let l = latitude-inside c4 in
+    rw (← f) (search rungs depth 10)
 
 returns-6 : tie.Need-returns-6
 unfolding recordRefusal
 returns-6 c =
-    let s = now (c .before .before .before .before .before .before .before .before .before .before .before .before .before .before .before .args .bytes) in
-    let m = inside _ _ (intAt s 4 4) 999999 (c .before .before .before .before .before .before .before .is-within .ensures) (held w32 (c .before .before .before .before .before .before .before .before .micros .ok) (c .before .before .before .before .before .before .before .before .micros .ensures)) (not-false _ (c .before .before .before .before .before .before .if3 .left)) in
-    let l = inside _ _ (intAt s 12 4) 90000000 (c .before .before .before .before .is-within2 .ensures) (held w32 (c .before .before .before .before .before .latitude .ok) (c .before .before .before .before .before .latitude .ensures)) (not-false _ (c .before .before .before .if4 .left)) in
-    rw (← c .before .before .before .before .before .before .before .before .before .before .before .before .u24-at .ensures, ← c .before .before .before .before .before .before .before .before .before .before .before .good-count .ensures, ← c .before .before .before .before .before .before .before .before .before .before .u8-at .ensures, ← c .before .before .u16-at .ensures) (search rungs depth 10)
+    let f = c .before .before .u16-at .ensures in
+    let c4 = c .before .before .before in
+    let c3 = c4 .before .before .before in
+    let q = counted (c3 .before .before .before) in
+    let m = micros-inside c3 in
+    let l = latitude-inside c4 in
+    rw (← f) (search rungs depth 10)
 
 returns-7 : tie.Need-returns-7
 unfolding recordRefusal
 returns-7 c =
-    let s = now (c .before .before .before .before .before .before .before .before .before .before .before .before .before .before .before .args .bytes) in
-    let m = inside _ _ (intAt s 4 4) 999999 (c .before .before .before .before .before .before .before .is-within .ensures) (held w32 (c .before .before .before .before .before .before .before .before .micros .ok) (c .before .before .before .before .before .before .before .before .micros .ensures)) (not-false _ (c .before .before .before .before .before .before .if3 .left)) in
-    let l = inside _ _ (intAt s 12 4) 90000000 (c .before .before .before .before .is-within2 .ensures) (held w32 (c .before .before .before .before .before .latitude .ok) (c .before .before .before .before .before .latitude .ensures)) (not-false _ (c .before .before .before .if4 .left)) in
-    rw (← c .before .before .before .before .before .before .before .before .before .before .before .before .u24-at .ensures, ← c .before .before .before .before .before .before .before .before .before .before .before .good-count .ensures, ← c .before .before .before .before .before .before .before .before .before .before .u8-at .ensures, ← c .before .before .u16-at .ensures) (search rungs depth 10)
+    let f = c .before .before .u16-at .ensures in
+    let c4 = c .before .before .before in
+    let c3 = c4 .before .before .before in
+    let q = counted (c3 .before .before .before) in
+    let m = micros-inside c3 in
+    let l = latitude-inside c4 in
+    rw (← f) (search rungs depth 10)
 
 pub record-refusal-spec : {M : Type 1} → statement M
 record-refusal-spec =
