@@ -45,7 +45,7 @@ pub const NEGATIVE: u64 = 4_294_967_296;
 
 pub const NEGATIVE2: u64 = 65_536;
 
-pub const COUNT: usize = 357;
+pub const COUNT: usize = 324;
 
 const CASES: [u64; COUNT] = [
     // The fills, and every shot of one.
@@ -60,22 +60,7 @@ const CASES: [u64; COUNT] = [
     STRIDING + FULL,
     SHOT + 1,
     SHOT + 2,
-    SHOT + 3,
-    SHOT + 4,
-    SHOT + 5,
-    SHOT + 6,
-    SHOT + 7,
-    SHOT + 8,
-    SHOT + 9,
     SHOT + 10,
-    SHOT + 11,
-    SHOT + 12,
-    SHOT + 13,
-    SHOT + 14,
-    SHOT + 15,
-    SHOT + 16,
-    SHOT + 17,
-    SHOT + 18,
     SHOT + 19,
     SHOT + 20,
     // Bytes that are not interpreted: the answer stays that of the fill.
@@ -128,64 +113,46 @@ const CASES: [u64; COUNT] = [
     ZEROS + READ + PUT4 + 29 * BYTE + 0x0A5A5A0A,
     ZEROS + READ + PUT4 + 29 * BYTE + 0x05A5A50A,
     12 * DUE + ZEROS + READ + PUT4 + 29 * BYTE + 0x05A5A509,
-    // Each quality bit alone, with its shot and the mirror image of it.
+    // Each quality bit alone, with its shot; the first and the last with the other one too.
     ZEROS + READ + PUT4 + 29 * BYTE + 0x08000001,
     SHOT + 1,
     SHOT + 20,
     ZEROS + READ + PUT4 + 29 * BYTE + 0x04000001,
     SHOT + 2,
-    SHOT + 19,
     ZEROS + READ + PUT4 + 29 * BYTE + 0x02000001,
     SHOT + 3,
-    SHOT + 18,
     ZEROS + READ + PUT4 + 29 * BYTE + 0x01000001,
     SHOT + 4,
-    SHOT + 17,
     ZEROS + READ + PUT4 + 29 * BYTE + 0x00800001,
     SHOT + 5,
-    SHOT + 16,
     ZEROS + READ + PUT4 + 29 * BYTE + 0x00400001,
     SHOT + 6,
-    SHOT + 15,
     ZEROS + READ + PUT4 + 29 * BYTE + 0x00200001,
     SHOT + 7,
-    SHOT + 14,
     ZEROS + READ + PUT4 + 29 * BYTE + 0x00100001,
     SHOT + 8,
-    SHOT + 13,
     ZEROS + READ + PUT4 + 29 * BYTE + 0x00080001,
     SHOT + 9,
-    SHOT + 12,
     ZEROS + READ + PUT4 + 29 * BYTE + 0x00040001,
     SHOT + 10,
-    SHOT + 11,
     ZEROS + READ + PUT4 + 29 * BYTE + 0x00020001,
     SHOT + 11,
-    SHOT + 10,
     ZEROS + READ + PUT4 + 29 * BYTE + 0x00010001,
     SHOT + 12,
-    SHOT + 9,
     ZEROS + READ + PUT4 + 29 * BYTE + 0x00008001,
     SHOT + 13,
-    SHOT + 8,
     ZEROS + READ + PUT4 + 29 * BYTE + 0x00004001,
     SHOT + 14,
-    SHOT + 7,
     ZEROS + READ + PUT4 + 29 * BYTE + 0x00002001,
     SHOT + 15,
-    SHOT + 6,
     ZEROS + READ + PUT4 + 29 * BYTE + 0x00001001,
     SHOT + 16,
-    SHOT + 5,
     ZEROS + READ + PUT4 + 29 * BYTE + 0x00000801,
     SHOT + 17,
-    SHOT + 4,
     ZEROS + READ + PUT4 + 29 * BYTE + 0x00000401,
     SHOT + 18,
-    SHOT + 3,
     ZEROS + READ + PUT4 + 29 * BYTE + 0x00000201,
     SHOT + 19,
-    SHOT + 2,
     ZEROS + READ + PUT4 + 29 * BYTE + 0x00000101,
     SHOT + 20,
     SHOT + 1,
@@ -429,17 +396,4 @@ const CASES: [u64; COUNT] = [
 // Row i, from 0; past the end, 0.
 pub(crate) fn row(i: usize) -> u64 {
     if i < COUNT { CASES[i] } else { 0 }
-}
-
-// The parts of a row.
-pub(crate) fn show(row: u64) -> u64 {
-    (row - row % SHOW) % DUE
-}
-
-pub(crate) fn fill(row: u64) -> u64 {
-    (row - row % FILL) % SHOW
-}
-
-pub(crate) fn step(row: u64) -> u64 {
-    (row - row % STEP) % FILL
 }

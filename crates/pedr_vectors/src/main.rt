@@ -5,6 +5,7 @@ mod cases;
 mod fields;
 mod reads;
 mod record;
+mod rows;
 mod shots;
 mod show;
 
@@ -15,7 +16,7 @@ fn run_all(n: usize) {
     let mut i = 0;
     while i < n {
         let row = cases::row(i);
-        let fill = cases::fill(row);
+        let fill = rows::fill(row);
         if fill != 0 {
             room = record::filled(fill);
         }

@@ -1,6 +1,7 @@
 // Records and shots that are read, one line each.
 use crate::cases;
 use crate::fields;
+use crate::rows;
 use crate::shots;
 use crate::show;
 use pedr::RecordAnswer;
@@ -44,7 +45,7 @@ fn show_arrays(arrays: RecordArrays, full: bool) {
 }
 
 fn read(row: u64, bytes: &[u8]) {
-    let full = cases::show(row) == cases::FULL;
+    let full = rows::show(row) == cases::FULL;
     let record = pedr::read_record(bytes);
     let answer = record.answer;
     let arrays = record.arrays;
@@ -78,12 +79,12 @@ fn read_shot(row: u64, bytes: &[u8]) {
 
 // Has the bytes read as a row asks.
 fn ask(i: usize, row: u64, bytes: &[u8]) {
-    if cases::step(row) == cases::SHOT {
+    if rows::step(row) == cases::SHOT {
         head(b"shot", i, bytes.len());
         read_shot(row, bytes);
         show::text(b"\n");
     }
-    if cases::show(row) != 0 {
+    if rows::show(row) != 0 {
         head(b"record", i, bytes.len());
         read(row, bytes);
         show::text(b"\n");

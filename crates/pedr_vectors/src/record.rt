@@ -1,5 +1,6 @@
 // The record that a row makes or changes.
 use crate::cases;
+use crate::rows;
 
 // Byte b by a fill's rule alone.
 fn plain_byte(fill: u64, b: usize) -> u8 {
@@ -75,7 +76,7 @@ fn flip(b: usize, bit: u64, room: &mut [u8; 800]) {
 pub(crate) fn change(row: u64, room: &mut [u8; 800]) {
     let number = row % cases::BYTE;
     let b = (row % cases::STEP / cases::BYTE) as usize;
-    match cases::step(row) {
+    match rows::step(row) {
         cases::PUT1 => put_byte(b, number, room),
         cases::PUT2 => put_two(b, number, room),
         cases::PUT4 => {
@@ -89,10 +90,10 @@ pub(crate) fn change(row: u64, room: &mut [u8; 800]) {
 
 // The length that the library is given after a row.
 pub(crate) fn length_after(row: u64, length: usize) -> usize {
-    if cases::step(row) == cases::LENGTH {
+    if rows::step(row) == cases::LENGTH {
         return (row % cases::BYTE) as usize;
     }
-    if cases::fill(row) == 0 {
+    if rows::fill(row) == 0 {
         return length;
     }
     776
