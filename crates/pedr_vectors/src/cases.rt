@@ -48,7 +48,7 @@ pub const NEGATIVE2: u64 = 65_536;
 pub const COUNT: usize = 324;
 
 const CASES: [u64; COUNT] = [
-    // The fills, and every shot of one.
+    // The fills in full, and some of their shots.
     ZEROS + READ,
     ONES + FULL,
     COUNTING + FULL,
