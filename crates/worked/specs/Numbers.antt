@@ -14,9 +14,9 @@ use Rattle.packet.specs.Fields.{noArrays}
 use Rattle.packet.specs.Read.{readRefusal}
 use Rattle.packet.specs.declared.PacketFields.{PacketFields}
 use Rattle.packet_writer.specs.Write.{packetOf}
-use Rattle.pedr_layout.specs.Layout.{timeWhole, timeMicros, qualityNumber, qualityCounter, frameIndex}
-use Rattle.pedr_flags.specs.Quality.{goodShot}
-use Rattle.pedr_flags.specs.Descriptor.{byteOfBit, placeOfBit}
+use Rattle.pedr_layout.specs.Layout.{_u1, timeWhole, timeMicros, qualityNumber, qualityCounter, frameIndex}
+use Rattle.pedr_flags.specs.Quality.{goodShot, qualityOf}
+use Rattle.pedr_flags.specs.Descriptor.{byteOfBit, placeOfBit, failed}
 use Rattle.pedr_flags.specs.Encoder.{encoderOf}
 use Rattle.pedr.specs.Time.{timeInMicros}
 use Rattle.pedr.specs.Fields.{timeOf}
@@ -83,12 +83,13 @@ pub record Numbers : Type 0 where
   pub bin-47 : binByte 47 ≡ 102
   -- quality 0x080001 with counter 2: shots 1 and 20
   pub quality-accepted : recordRefusal (qualityRecord 0x080001 2) ≡ 0
-  pub quality-shots : table 20 (λ k. goodShot 0x080001 (suc k)) ≡ true ∷ (replicate 18 false ++ (true ∷ []))
+  pub quality-shots : table 20 (λ k. goodShot (qualityOf (qualityRecord 0x080001 2) .good) (suc k)) ≡ true ∷ (replicate 18 false ++ (true ∷ []))
   -- 0x100000 with counter 0 is accepted
   pub carried-bit-accepted : recordRefusal (qualityRecord 0x100000 0) ≡ 0
   -- descriptor bit 23 is byte 46, bit 7
   pub bit-23-byte : byteOfBit 23 ≡ 46
   pub bit-23-place : placeOfBit 23 ≡ 7
+  pub bit-23-set : failed (zeroRecord with (2 ^ 7) at (46 u1)) 23 ≡ true
   -- encoder 0x21: start 1, stop 2
   pub encoder-start : encoderOf 0x21 .start ≡ 1
   pub encoder-stop : encoderOf 0x21 .stop ≡ 2

@@ -10,9 +10,10 @@ use mir.Syntax.{w32}
 use borrow.Author.Needs.{needs}
 use borrow.Author.Tests.{leb-true, leb-false, not-true, not-false}
 use Rattle.numbers.proofs.Ranges.{held}
+use Rattle.octets.specs.Refusal.{refuse_unless_else_, within}
 use Rattle.octets.proofs.Ladder.{rungs}
 use Rattle.layout.specs.Column.{value}
-use Rattle.pedr_layout.specs.Layout.{timeMicros, latitude, qualityNumber, qualityCounter}
+use Rattle.pedr_layout.specs.Layout.{timeMicros, latitude, qualityNumber, qualityCounter, frameIndex}
 use Rattle.pedr_flags.specs.Quality.{goodCount}
 use Rattle.pedr.specs.Read.{recordRefusal}
 use Rattle.pedr.proofs.record_refusal.Statement.{statement}
@@ -48,6 +49,18 @@ latitude-inside : (c : tie.Else4) → natAbs (value (record-at (c .before .befor
 latitude-inside c =
     let l = c .before .before .latitude in
     inside _ _ _ 90000000 (c .before .is-within2 .ensures) (held w32 (l .ok) (l .ensures)) (not-false _ (c .if4 .left))
+
+-- after the first four tests the frame index decides
+by-frame-index : (c : tie.Else4) (r : ℕ)
+    → r ≡ (refuse 15 unless within 1 7 (value (record-at (c .before .before .before .before .before .before .before)) frameIndex) else 0)
+    → r ≡ recordRefusal (record-at (c .before .before .before .before .before .before .before))
+unfolding recordRefusal
+by-frame-index c r e =
+    let c3 = c .before .before .before in
+    let q = counted (c3 .before .before .before) in
+    let m = micros-inside c3 in
+    let l = latitude-inside c in
+    search rungs depth 10
 
 returns : tie.Need-returns
 unfolding recordRefusal
@@ -105,37 +118,13 @@ u16-at-requires : tie.Need-u16-at-requires
 u16-at-requires c κs = search needs
 
 returns-5 : tie.Need-returns-5
-unfolding recordRefusal
-returns-5 c =
-    let f = c .before .u16-at .ensures in
-    let c4 = c .before .before in
-    let c3 = c4 .before .before .before in
-    let q = counted (c3 .before .before .before) in
-    let m = micros-inside c3 in
-    let l = latitude-inside c4 in
-    rw (← f) (search rungs depth 10)
+returns-5 c = by-frame-index (c .before .before) 15 (rw (← c .before .u16-at .ensures) (search rungs depth 3))
 
 returns-6 : tie.Need-returns-6
-unfolding recordRefusal
-returns-6 c =
-    let f = c .before .before .u16-at .ensures in
-    let c4 = c .before .before .before in
-    let c3 = c4 .before .before .before in
-    let q = counted (c3 .before .before .before) in
-    let m = micros-inside c3 in
-    let l = latitude-inside c4 in
-    rw (← f) (search rungs depth 10)
+returns-6 c = by-frame-index (c .before .before .before) 15 (rw (← c .before .before .u16-at .ensures) (search rungs depth 3))
 
 returns-7 : tie.Need-returns-7
-unfolding recordRefusal
-returns-7 c =
-    let f = c .before .before .u16-at .ensures in
-    let c4 = c .before .before .before in
-    let c3 = c4 .before .before .before in
-    let q = counted (c3 .before .before .before) in
-    let m = micros-inside c3 in
-    let l = latitude-inside c4 in
-    rw (← f) (search rungs depth 10)
+returns-7 c = by-frame-index (c .before .before .before) 0 (rw (← c .before .before .u16-at .ensures) (search rungs depth 3))
 
 pub record-refusal-spec : {M : Type 1} → statement M
 record-refusal-spec =

@@ -8,6 +8,7 @@ use Rattle.packet.specs.Header.{headerRefusal}
 use Rattle.packet.specs.Read.{readRefusal}
 use Rattle.packet_writer.specs.Write.{histogramOf, unsummed, packetOf}
 use Rattle.numbers.specs.Bit.{bitsSet}
+use Rattle.pedr_flags.specs.Quality.{qualityOf}
 use Rattle.pedr.specs.Fields.{timeOf}
 use Rattle.pedr.specs.Read.{recordRefusal}
 use Rattle.worked.specs.Numbers.{counted, zeroPacket, zeroRecord, qualityRecord, timeRecord}
@@ -15,7 +16,7 @@ use Rattle.worked.proofs.worked_numbers.Statement.{statement}
 use Rattle.worked.proofs.worked_numbers.Tie as tie
 
 returns : tie.Need-returns
-unfolding put refuse_unless_else_ _then_ wordSum zeroed packetSum firstBin headerRefusal readRefusal histogramOf unsummed packetOf counted zeroPacket zeroRecord qualityRecord timeRecord bitsSet timeOf recordRefusal
+unfolding put refuse_unless_else_ _then_ wordSum zeroed packetSum firstBin headerRefusal readRefusal histogramOf unsummed packetOf counted zeroPacket zeroRecord qualityRecord timeRecord bitsSet qualityOf timeOf recordRefusal
 returns c =
     record {
       sum-of-count-0 = refl;
@@ -35,6 +36,7 @@ returns c =
       carried-bit-accepted = refl;
       bit-23-byte = refl;
       bit-23-place = refl;
+      bit-23-set = refl;
       encoder-start = refl;
       encoder-stop = refl;
       time-accepted = refl;
