@@ -136,23 +136,34 @@ fn read_arrays(bytes: &[u8]) -> PacketArrays
     }
 }
 
-// Reads a packet whose sum stands at word sum_word. Any bytes, any word.
-pub fn read_packet(bytes: &[u8], sum_word: usize) -> PacketRead
-    ensures { λ r. ⌜ (said (r .answer) ≡ readSaid (now (bytes .entry)) «sum_word») × (r .arrays ≡ readArrays (now (bytes .entry)) «sum_word») ⌝ }
+// Reads the single fields of a packet whose sum stands at word sum_word. Any bytes, any word.
+pub fn read_answer(bytes: &[u8], sum_word: usize) -> PacketAnswer
+    ensures { λ r. ⌜ said r ≡ readSaid (now (bytes .entry)) «sum_word» ⌝ }
 {
     let n = refusal(bytes, sum_word);
     if n != 0 {
+        return PacketAnswer::Refused(n);
+    }
+    PacketAnswer::Accepted(read_fields(bytes))
+}
+
+// Reads a packet, the arrays too.
+pub fn read_packet(bytes: &[u8], sum_word: usize) -> PacketRead
+    ensures { λ r. ⌜ (said (r .answer) ≡ readSaid (now (bytes .entry)) «sum_word») × (r .arrays ≡ readArrays (now (bytes .entry)) «sum_word») ⌝ }
+{
+    let answer = read_answer(bytes, sum_word);
+    let PacketAnswer::Accepted(_) = answer else {
         return PacketRead {
-            answer: PacketAnswer::Refused(n),
+            answer,
             arrays: PacketArrays {
                 temperatures: [0; 16],
                 readings: [0; 14],
                 bins: [0; 48],
             },
         };
-    }
+    };
     PacketRead {
-        answer: PacketAnswer::Accepted(read_fields(bytes)),
+        answer,
         arrays: read_arrays(bytes),
     }
 }

@@ -1,34 +1,47 @@
--- What is said, and the arrays beside it, by the ladder's number.
-use mathlib.Core.Path.{sym, _∙_}
+-- The arrays, by what was said.
+use Prim.Native.Nat.{ℕ}
+use mathlib.Core.Path.{_≡_, sym, ap, _∙_}
+use mathlib.Core.List.{List}
 use denote.Ref.{now}
-use Rattle.octets.proofs.Ladder.{say-refused, say-answered, after-refused, after-done}
+use Rattle.octets.specs.Refusal.{refused, answered}
+use Rattle.octets.proofs.Ladder.{answer-said, refusal-said, after-refused, after-done}
 use Rattle.packet.specs.Fields.{fieldsOf, arraysOf, noArrays}
+use Rattle.packet.specs.Read.{readRefusal, said, readSaid, readArrays}
+use Rattle.packet.specs.declared.PacketFields.{PacketFields}
+use Rattle.packet.specs.declared.PacketArrays.{PacketArrays}
 use borrow.Author.Needs.{needs}
 use Rattle.packet.proofs.read_packet.Statement.{statement}
 use Rattle.packet.proofs.read_packet.Tie as tie
 
-refusal-requires : tie.Need-refusal-requires
-refusal-requires c κs = search needs
+none : (s : List ℕ) (w n : ℕ) → refused n ≡ readSaid s w → noArrays ≡ readArrays s w
+none s w n e = let r = refusal-said n (readRefusal s w) (fieldsOf s) e in after-refused n _ (arraysOf s) noArrays (r .0) (λ z. r .1 (sym (r .0) ∙ z))
+
+all : (s : List ℕ) (w : ℕ) (f : PacketFields) (a : PacketArrays) → answered f ≡ readSaid s w → a ≡ arraysOf s → a ≡ readArrays s w
+all s w f a e q = let r = answer-said (readRefusal s w) (fieldsOf s) f e in after-done _ (arraysOf s) noArrays a (r .0) q
+
+read-answer-requires : tie.Need-read-answer-requires
+read-answer-requires c κs = search needs
+
+enum-told : tie.Need-enum-told
+enum-told c = search needs
+
+enum-told-2 : tie.Need-enum-told-2
+enum-told-2 c = search needs
 
 returns : tie.Need-returns
 returns c =
-    let s = now (c .before .before .before .args .bytes) in
-    let e = c .before .refusal .ensures in
-    (say-refused _ _ (fieldsOf s) e (c .if1 .taken), after-refused _ _ (arraysOf s) noArrays e (c .if1 .taken))
-
-read-fields-requires : tie.Need-read-fields-requires
-read-fields-requires c κs = search needs
+    let e = c .before .before .read-answer .ensures in
+    (e, none _ _ _ (ap said (sym (c .enum-told2 .given .1)) ∙ e))
 
 read-arrays-requires : tie.Need-read-arrays-requires
 read-arrays-requires c κs = search needs
 
 returns-2 : tie.Need-returns-2
 returns-2 c =
-    let s = now (c .before .before .before .before .before .args .bytes) in
-    let z = sym (c .before .before .before .refusal .ensures) ∙ c .before .before .if1 .left in
-    (say-answered _ (fieldsOf s) _ z (c .before .read-fields .ensures), after-done _ (arraysOf s) noArrays _ z (c .read-arrays .ensures))
+    let e = c .before .before .before .read-answer .ensures in
+    (e, all _ _ _ _ (ap said (sym (c .before .enum-told .given .1)) ∙ e) (c .read-arrays .ensures))
 
 pub read-packet-spec : {M : Type 1} → statement M
 read-packet-spec =
     tie.close
-    (tie.spec refusal-requires returns read-fields-requires read-arrays-requires returns-2)
+    (tie.spec read-answer-requires enum-told enum-told-2 returns read-arrays-requires returns-2)
