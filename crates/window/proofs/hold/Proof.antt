@@ -1,0 +1,21 @@
+-- The position's bit is set.
+use Prim.Native.Nat.{ℕ, _%_}
+use mathlib.Core.Path.{ap, _∙_}
+use lib.Bits.{bitOr}
+use Rattle.numbers.proofs.Bits.{set-bit}
+use Rattle.window.specs.declared.Window.{Window}
+use borrow.Author.Needs.{needs}
+use Rattle.window.proofs.hold.Statement.{statement}
+use Rattle.window.proofs.hold.Tie as tie
+
+bit-of-requires : tie.Need-bit-of-requires
+bit-of-requires c κs = search needs
+
+returns : tie.Need-returns
+returns c =
+    let w = c .before .before .args .window in
+    let m = ap (bitOr (w .marks)) (c .before .bit-of .ensures) ∙ set-bit (w .marks) (c .before .before .args .p % 32) in
+    λ i. record { next = w .next; marks = m i }
+
+pub hold-spec : {M : Type 1} → statement M
+hold-spec = tie.close (tie.spec bit-of-requires returns)

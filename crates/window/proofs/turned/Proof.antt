@@ -1,0 +1,28 @@
+-- Each bit of the turned word.
+use Prim.Native.Nat.{ℕ, _+_, _%_}
+use mathlib.Core.Path.{_≡_, ap, _∙_}
+use native.Mathlib.Omega.{arith}
+use Rattle.numbers.specs.Bit.{bit}
+use Rattle.window.proofs.Furthest.{rotated-bit}
+use borrow.Author.Needs.{needs}
+use Rattle.window.proofs.turned.Statement.{statement}
+use Rattle.window.proofs.turned.Tie as tie
+
+shr-result : tie.Need-shr-result
+shr-result c = search needs
+
+sub-result : tie.Need-sub-result
+sub-result c = search needs
+
+shl-result : tie.Need-shl-result
+shl-result c = search needs
+
+returns : tie.Need-returns
+returns c =
+    λ j h.
+    let w = c .before .before .before .args .window in
+    let e : (w .next % 32 + j) % 32 ≡ (w .next + j) % 32 = omega arith in
+    rotated-bit (w .marks) (w .next % 32) j (c .struct-known3 .given .1 .0 .fits) (omega arith) h ∙ ap (bit (w .marks)) e
+
+pub turned-spec : {M : Type 1} → statement M
+turned-spec = tie.close (tie.spec shr-result sub-result shl-result returns)
