@@ -1,0 +1,43 @@
+-- What a call leaves, by what it says.
+use Prim.Native.Nat.{ℕ, zero, suc}
+use mathlib.Core.Path.{_≡_, refl, sym, ap, _∙_}
+use mathlib.Core.List.{List}
+use Rattle.octets.specs.Refusal.{Said, refused, answered}
+use Rattle.octets.proofs.Ladder.{refusal-said}
+use Rattle.packet.specs.Fields.{fieldsOf}
+use Rattle.packet.specs.Read.{readRefusal, readSaid}
+use Rattle.reorder.specs.declared.Session.{Session}
+use Rattle.reorder.specs.Outcome.{Outcome, outcome, refusing}
+
+module _ {A : Type 0} (s : Session) (b : List ℕ) (f : A → Session) (g : A → List ℕ) where
+  -- a refusal leaves the session and the bytes as they were
+  pub stays : (n : ℕ) (x : Said A) → refused n ≡ x
+      → (refused n ≡ outcome x s b f g .said) × ((s ≡ outcome x s b f g .session) × (b ≡ outcome x s b f g .bytes))
+  stays n x e = (
+    ap (λ (y : Said A). outcome y s b f g .said) e,
+    (ap (λ (y : Said A). outcome y s b f g .session) e, ap (λ (y : Said A). outcome y s b f g .bytes) e),
+  )
+
+  -- an answer leaves what it says
+  pub leaves : (a : A) (x : Said A) (s′ : Session) (b′ : List ℕ) → answered a ≡ x → s′ ≡ f a → b′ ≡ g a
+      → (answered a ≡ outcome x s b f g .said) × ((s′ ≡ outcome x s b f g .session) × (b′ ≡ outcome x s b f g .bytes))
+  leaves a x s′ b′ e p q = (
+    ap (λ (y : Said A). outcome y s b f g .said) e,
+    (p ∙ ap (λ (y : Said A). outcome y s b f g .session) e, q ∙ ap (λ (y : Said A). outcome y s b f g .bytes) e),
+  )
+
+-- a ladder's refusal is said, or what comes next
+pub refusing-now : {A : Type 0} (n m : ℕ) (x : Said A) → n ≡ m → (n ≡ 0 → ⊥) → refused n ≡ refusing m x
+unfolding refusing
+refusing-now zero m x e ne = absurd (ne refl)
+refusing-now (suc n) m x e ne = ap (λ (k : ℕ). refusing k x) e
+
+pub refusing-next : {A : Type 0} (m : ℕ) (x y : Said A) → m ≡ 0 → y ≡ x → y ≡ refusing m x
+unfolding refusing
+refusing-next m x y e q = q ∙ ap (λ (k : ℕ). refusing k x) (sym e)
+
+-- the reader's refusal handed on: its number is the ladder's, and not 0
+pub handed-on : (b : List ℕ) (w k r : ℕ) → refused k ≡ readSaid b w → r ≡ k → (r ≡ readRefusal b w) × (r ≡ 0 → ⊥)
+handed-on b w k r e q =
+    let h = refusal-said k (readRefusal b w) (fieldsOf b) e in
+    (q ∙ h .0, λ z. h .1 (sym (q ∙ h .0) ∙ z))

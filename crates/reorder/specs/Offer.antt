@@ -1,0 +1,88 @@
+-- Document 01, "The rack" and "Refusal numbers": the opening and the offer.
+use Prim.Native.Nat.{ℕ, _+_}
+use mathlib.Core.Bool.{not}
+use mathlib.Core.List.{List}
+use lib.Dec.{eqb}
+use lib.IntN.{ℤ, pos, natAbs}
+use lib.ListN.{length}
+use lib.Signed.{leZ}
+use Rattle.octets.specs.Bytes.{put}
+use Rattle.octets.specs.Refusal.{refuse_unless_else_, _then_, within, Said, refused, answered, say}
+use Rattle.packet.specs.declared.PacketFields.{PacketFields}
+use Rattle.packet.specs.Fields.{fieldsOf}
+use Rattle.packet.specs.Read.{readRefusal}
+use Rattle.position.specs.Position.{position, publishedTolerance}
+use Rattle.window.specs.declared.Window.{Window}
+use Rattle.window.specs.Window.{heldAt, holding}
+use Rattle.reorder.specs.declared.Session.{Session}
+use Rattle.reorder.specs.declared.OfferAnswer.{OfferAnswer}
+use Rattle.reorder.specs.declared.OfferAnswer.the-variants.{Refused, Held}
+use Rattle.reorder.specs.Session.{broken, withWindow, slotStart}
+use Rattle.reorder.specs.Outcome.{Outcome, outcome, refusing}
+
+-- the number, or the position, that each case of the answer stands for
+abbrev pub said : OfferAnswer → Said ℕ
+said (Refused n) = refused n
+said (Held p) = answered p
+
+-- 22: position over 999,999. 23, 24, 25: position below next; already held; over next + 31
+unfoldable pub placeRefusal : Window → ℤ → ℕ
+placeRefusal w p =
+    refuse 22 unless leZ p (pos 999999) else
+    refuse 23 unless leZ (pos (w .next)) p else
+    refuse 24 unless not (heldAt w (natAbs p)) else
+    refuse 25 unless leZ p (pos (w .next + 31)) else
+    0
+
+-- where a packet goes whose position is worked out, or for which none fits (21)
+unfoldable pub placed : Window → Said ℤ → Said ℕ
+placed w (refused n) = refused n
+placed w (answered p) = say (placeRefusal w p) (natAbs p)
+
+-- the position of a packet of these fields: its clock is the coarse time
+abbrev pub positionOf : Session → PacketFields → Said ℤ
+positionOf s f = position (s .anchor) (f .count) (f .«coarse_time») publishedTolerance
+
+-- 30, 27: session broken; store, of this size, not 34,560 bytes. Then 1 to 10, then 21 to 25, else the position
+unfoldable pub offerSaid : Session → ℕ → List ℕ → Said ℕ
+offerSaid s size b =
+    refusing (
+    refuse 30 unless not (broken s) else
+    refuse 27 unless eqb size 34560 else
+    readRefusal b (s .«sum_word»)
+    ) (placed (s .window) (positionOf s (fieldsOf b)))
+
+-- holds the packet at p, and answers p: the packet's bytes are p's in the store
+unfoldable pub offerOf : Session → List ℕ → List ℕ → Outcome ℕ
+offerOf s store b =
+    outcome (offerSaid s (length store) b) s store
+    (λ p. withWindow s (holding (s .window) p))
+    (λ p. put store (slotStart p) b)
+
+-- the window of an opening: next is 0, and position 0 held
+abbrev pub firstWindow : Window
+firstWindow = record { next = 0; marks = 1 }
+
+-- the session that a packet of these fields opens, held at position 0, with threshold h (document 01's patience) and the sum at word w
+abbrev pub opened : PacketFields → ℕ → ℕ → Session
+opened f h w = record { anchor = record { count = f .count; time = f .«coarse_time» }; «sum_word» = w; threshold = h; window = firstWindow }
+
+-- 20, 27: patience not 1 to 31; store not 34,560 bytes. Then 1 to 10, else position 0
+unfoldable pub openSaid : ℕ → List ℕ → ℕ → ℕ → Said ℕ
+openSaid size b h w =
+    say (
+    refuse 20 unless within 1 31 h else
+    refuse 27 unless eqb size 34560 else
+    readRefusal b w
+    ) 0
+
+-- s is the session that a refused opening leaves
+unfoldable pub openOf : Session → List ℕ → List ℕ → ℕ → ℕ → Outcome ℕ
+openOf s store b h w =
+    outcome (openSaid (length store) b h w) s store
+    (λ p. opened (fieldsOf b) h w)
+    (λ p. put store (slotStart p) b)
+
+-- a refused opening by value, which was lent no session, returns one of all zeros
+abbrev pub noSession : Session
+noSession = record { anchor = record { count = 0; time = 0 }; «sum_word» = 0; threshold = 0; window = record { next = 0; marks = 0 } }
