@@ -1,0 +1,50 @@
+-- A refusal leaves everything; else it is one step.
+use Prim.Native.Nat.{ℕ, _≤_}
+use mathlib.Core.Path.{_≡_, refl, sym, ap, _∙_}
+use native.Mathlib.Omega.{arith}
+use denote.Ref.{now}
+use lib.ListN.{length}
+use Rattle.octets.proofs.Ladder.{say-refused, say-answered}
+use Rattle.reorder.proofs.Said.{stays, leaves}
+use Rattle.reorder_serve.specs.Turn.{turn}
+use Rattle.reorder_serve.specs.Serve.{serveRefusal, serveOf}
+use Rattle.reorder_serve.proofs.Ready.{ServeReady, serve-ready}
+use borrow.Author.Needs.{needs}
+use Rattle.reorder_serve.proofs.serve.Statement.{statement}
+use Rattle.reorder_serve.proofs.serve.Tie as tie
+
+passes : (c : tie.Else1) → let a = c .before .before .before .before .args in serveRefusal (a .session) (length (now (a .store))) (length (now (a .out))) ≡ 0
+passes c = sym (c .before .serve-refusal .ensures) ∙ c .if1 .left
+
+ready : (c : tie.Else1) → let a = c .before .before .before .before .args in ServeReady (a .session) (length (now (a .store))) (length (now (a .out)))
+ready c = serve-ready _ _ _ (passes c)
+
+serve-refusal-requires : tie.Need-serve-refusal-requires
+serve-refusal-requires c κs = search needs
+
+returns : tie.Need-returns
+unfolding serveOf
+returns c =
+    let a = c .before .before .before .before .args in
+    stays _ _ _ _ _ _ (say-refused _ _ (turn (a .session)) (c .before .serve-refusal .ensures) (c .if1 .taken))
+
+step-requires : tie.Need-step-requires
+step-requires c κs =
+    let r = ready (c .before) in
+    (omega (arith, r .sound .next-most), r .store)
+
+same-length : tie.Need-same-length
+same-length c = search needs
+
+returns-2 : tie.Need-returns-2
+unfolding serveOf
+returns-2 c =
+    let e = c .before .before .step .ensures in
+    let k = c .before .before .before .before in
+    let a = k .before .before .before .before .args in
+    let l = leaves _ _ _ _ _ _ _ _ (say-answered _ (turn (a .session)) _ (passes k) refl) (e .1 .0) (e .1 .1) in
+    (e .0 ∙ l .0, l .1)
+
+pub serve-spec : {M : Type 1} → statement M
+serve-spec =
+    tie.close (tie.spec serve-refusal-requires returns step-requires same-length returns-2)

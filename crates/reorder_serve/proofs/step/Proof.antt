@@ -1,0 +1,120 @@
+-- The turn by the two tests, and what it leaves.
+use Prim.Native.Nat.{ℕ, _+_, _-_, _*_, _%_}
+use mathlib.Core.Path.{_≡_, refl, sym, ap, _∙_}
+use mathlib.Core.Bool.{false}
+use mathlib.Core.List.{List}
+use native.Mathlib.Omega.{arith}
+use denote.Ref.{now}
+use lib.ListN.{take, drop}
+use Rattle.octets.specs.Bytes.{part, put}
+use Rattle.window.specs.Window.{heldAt}
+use Rattle.reorder.specs.declared.Session.{Session}
+use Rattle.reorder.specs.Session.{withWindow, slotStart}
+use Rattle.reorder_serve.proofs.Turns.{turn-packet, turn-missing, turn-waiting, did}
+use borrow.Author.Needs.{needs}
+use Rattle.reorder_serve.proofs.step.Statement.{statement}
+use Rattle.reorder_serve.proofs.step.Tie as tie
+
+part-is : (i n : ℕ) (s : List ℕ) → take ((i + n) - i) (drop i s) ≡ part s i n
+part-is i n s = let e : (i + n) - i ≡ n = omega arith in ap (λ (k : ℕ). take k (drop i s)) e
+
+free : (c : tie.Else1) → let w = c .before .before .before .before .before .args .session .window in heldAt w (w .next) ≡ false
+free c = sym (c .before .is-held .ensures) ∙ c .if1 .left
+
+is-held-requires : tie.Need-is-held-requires
+is-held-requires c κs = search needs
+
+cast-from : tie.Need-cast-from
+cast-from c = search needs
+
+mul-from : tie.Need-mul-from
+mul-from c = search needs
+
+add-write-into : tie.Need-add-write-into
+add-write-into c = search needs
+
+sub-write-into : tie.Need-sub-write-into
+sub-write-into c = search needs
+
+part-write-into-start : tie.Need-part-write-into-start
+part-write-into-start c = search needs
+
+part-write-into-end : tie.Need-part-write-into-end
+part-write-into-end c = search needs
+
+mul-write-into : tie.Need-mul-write-into
+mul-write-into c = search needs
+
+write-into-requires : tie.Need-write-into-requires
+write-into-requires c κs = search needs
+
+add-t11 : tie.Need-add-t11
+add-t11 c = search needs
+
+unmark-requires : tie.Need-unmark-requires
+unmark-requires c κs = search needs
+
+with-window-requires : tie.Need-with-window-requires
+with-window-requires c κs = search needs
+
+same-length : tie.Need-same-length
+same-length c = search needs
+
+returns : tie.Need-returns
+returns c =
+    let w = c .before .before .before .before in
+    let t = w .before .before .before in
+    let a = t .before .before .before .before .before .args in
+    let s = a .session in
+    let from = slotStart (s .window .next) in
+    did s (a .i) (now (a .store)) (now (a .out)) _ _ _
+    (turn-packet s (sym (t .before .is-held .ensures) ∙ t .if1 .taken))
+    (c .with-window .ensures ∙ ap (λ (m : ℕ). withWindow s (record { next = s .window .next + 1; marks = m })) (c .before .unmark .ensures))
+    (w .write-into .ensures ∙ ap (put (now (a .out)) (1080 * a .i)) (part-is from 1080 (now (a .store))))
+
+is-held-ahead-requires : tie.Need-is-held-ahead-requires
+is-held-ahead-requires c κs = search needs
+
+add-t26 : tie.Need-add-t26
+add-t26 c = search needs
+
+with-window-requires-2 : tie.Need-with-window-requires-2
+with-window-requires-2 c κs = search needs
+
+returns-2 : tie.Need-returns-2
+returns-2 c =
+    let a = c .before .before .before .before .before .before .before .before .args in
+    did (a .session) (a .i) (now (a .store)) (now (a .out)) _ _ _
+    (turn-missing (a .session) (free (c .before .before .before)) (sym (c .before .before .is-held-ahead .ensures) ∙ c .before .if2 .taken))
+    (c .with-window2 .ensures) refl
+
+returns-3 : tie.Need-returns-3
+returns-3 c =
+    let a = c .before .before .before .before .before .before .before .args in
+    did (a .session) (a .i) (now (a .store)) (now (a .out)) _ _ _
+    (turn-waiting (a .session) (free (c .before .before)) (sym (c .before .is-held-ahead .ensures) ∙ c .if2 .left))
+    refl refl
+
+pub step-spec : {M : Type 1} → statement M
+step-spec =
+    tie.close
+    (tie.spec
+    is-held-requires
+    cast-from
+    mul-from
+    add-write-into
+    sub-write-into
+    part-write-into-start
+    part-write-into-end
+    mul-write-into
+    write-into-requires
+    add-t11
+    unmark-requires
+    with-window-requires
+    same-length
+    returns
+    is-held-ahead-requires
+    add-t26
+    with-window-requires-2
+    returns-2
+    returns-3)

@@ -1,0 +1,262 @@
+// Serving the reorder buffer in order: serve, drain and pass (document 01, "The rack").
+use reorder::Session;
+use window::Window;
+ghost use mathlib.Core.Path.{_≡_};
+ghost use Prim.Native.Nat.{_+_, _≤_, _<_};
+ghost use lib.ListN.{length};
+ghost use Rattle.octets.specs.Refusal.{answered};
+ghost use Rattle.reorder_serve.specs.Turn.{turn, turned, shown, turns, turnedAll, shownAll, describedAll};
+ghost use Rattle.reorder_serve.specs.Serve.{serveSaid, drainSaid, passSaid, serveRefusal, drainRefusal, serveOf, drainOf, counted, descriptions, countSaid, describedSaid, passOf};
+
+// A refusal with its number; the packet at a position; that a position is missing; or that nothing is to be served yet.
+pub enum ServeAnswer {
+    Refused(u8),
+    Packet(u32),
+    Missing(u32),
+    Waiting,
+}
+
+// What a serve answers, and the session then.
+pub struct Served {
+    pub answer: ServeAnswer,
+    pub session: Session,
+}
+
+// A refusal with its number, or the position passed.
+pub enum PassAnswer {
+    Refused(u8),
+    Missing(u32),
+}
+
+// What a pass answers, and the session then.
+pub struct Passed {
+    pub answer: PassAnswer,
+    pub session: Session,
+}
+
+// One answer of a drain: kind 0 none, 1 a packet, 2 a missing position.
+pub struct Description {
+    pub kind: u8,
+    pub position: u32,
+}
+
+// A refusal with its number, or how many answers there were.
+pub enum DrainAnswer {
+    Refused(u8),
+    Count(u32),
+}
+
+// What a drain answers: the answers in order, all zeros past their count and on a refusal.
+pub struct Report {
+    pub answer: DrainAnswer,
+    pub descriptions: [Description; 32],
+}
+
+// The report of a drain, and the session then.
+pub struct Drained {
+    pub answer: Report,
+    pub session: Session,
+}
+
+// Serves once where nothing is refused; a packet's bytes go to 1,080 i of the output.
+fn step(session: Session, out: &mut [u8], store: &[u8], i: u32) -> Served
+    requires { ⌜ session .window .next < 4294967295 ⌝ }
+    requires { ⌜ length (now store) ≡ 34560 ⌝ }
+    ensures { λ r. ⌜ (serveSaid (r .answer) ≡ answered (turn session)) × ((r .session ≡ turned session (turn session)) × (now (out .exit) ≡ shown i (now (store .entry)) (now (out .entry)) (turn session))) ⌝ }
+{
+    let window = session.window;
+    let next = window.next;
+    if window::is_held(window, next) {
+        let from = 1080 * (next % 32) as usize;
+        octets::write_into(&store[from..from + 1080], 1080 * i as usize, out);
+        let after = Window {
+            next: next + 1,
+            marks: window::unmark(window.marks, next),
+        };
+        return Served {
+            answer: ServeAnswer::Packet(next),
+            session: reorder::with_window(session, after),
+        };
+    }
+    if window::is_held_ahead(window, session.threshold) {
+        let after = Window {
+            next: next + 1,
+            marks: window.marks,
+        };
+        return Served {
+            answer: ServeAnswer::Missing(next),
+            session: reorder::with_window(session, after),
+        };
+    }
+    Served {
+        answer: ServeAnswer::Waiting,
+        session,
+    }
+}
+
+// Refusals 30, 27 and 29 of a serve, or 0.
+fn serve_refusal(session: Session, store_size: usize, out_size: usize) -> u8
+    ensures { λ r. ⌜ r ≡ serveRefusal session «store_size» «out_size» ⌝ }
+{
+    if reorder::is_broken(session) {
+        return 30;
+    }
+    if store_size != 34_560 {
+        return 27;
+    }
+    if out_size < 1080 {
+        return 29;
+    }
+    0
+}
+
+// Serves the next position.
+pub fn serve(session: Session, out: &mut [u8], store: &[u8]) -> Served
+    ensures { λ r. ⌜ (serveSaid (r .answer) ≡ serveOf session (now (out .entry)) (now (store .entry)) .said) × ((r .session ≡ serveOf session (now (out .entry)) (now (store .entry)) .session) × (now (out .exit) ≡ serveOf session (now (out .entry)) (now (store .entry)) .bytes)) ⌝ }
+{
+    let n = serve_refusal(session, store.len(), out.len());
+    if n != 0 {
+        return Served {
+            answer: ServeAnswer::Refused(n),
+            session,
+        };
+    }
+    step(session, out, store, 0)
+}
+
+// The description of an answer; of Waiting and of a refusal, all zeros.
+fn describe(answer: ServeAnswer) -> Description
+    ensures { λ r. ⌜ r ≡ describedSaid (serveSaid answer) ⌝ }
+{
+    match answer {
+        ServeAnswer::Refused(_) => Description {
+            kind: 0,
+            position: 0,
+        },
+        ServeAnswer::Packet(p) => Description {
+            kind: 1,
+            position: p,
+        },
+        ServeAnswer::Missing(p) => Description {
+            kind: 2,
+            position: p,
+        },
+        ServeAnswer::Waiting => Description {
+            kind: 0,
+            position: 0,
+        },
+    }
+}
+
+// Refusals 30, 27, 29 and 31 of a drain, or 0.
+fn drain_refusal(session: Session, store_size: usize, out_size: usize, budget: u32) -> u8
+    ensures { λ r. ⌜ r ≡ drainRefusal session «store_size» «out_size» budget ⌝ }
+{
+    if reorder::is_broken(session) {
+        return 30;
+    }
+    if store_size != 34_560 {
+        return 27;
+    }
+    if out_size != 34_560 {
+        return 29;
+    }
+    if 32 < budget {
+        return 31;
+    }
+    0
+}
+
+// Serves until a serve waits or the budget is spent.
+fn run(session: Session, out: &mut [u8], store: &[u8], budget: u32) -> Drained
+    requires { ⌜ session .window .next ≤ 1000000 ⌝ }
+    requires { ⌜ length (now store) ≡ 34560 ⌝ }
+    requires { ⌜ budget ≤ 32 ⌝ }
+    ensures { λ r. ⌜ (drainSaid (r .answer .answer) ≡ answered (length (turns budget session))) × ((r .answer .descriptions ≡ describedAll (turns budget session)) × ((r .session ≡ turnedAll session (turns budget session)) × (now (out .exit) ≡ shownAll 0 (now (store .entry)) (now (out .entry)) (turns budget session)))) ⌝ }
+{
+    let mut now = session;
+    let mut i: u32 = 0;
+    let mut descriptions = [Description {
+        kind: 0,
+        position: 0,
+    }; 32];
+    while i < budget {
+        let served = step(now, out, store, i);
+        let answer = served.answer;
+        let description = describe(answer);
+        if description.kind == 0 {
+            return Drained {
+                answer: Report {
+                    answer: DrainAnswer::Count(i),
+                    descriptions,
+                },
+                session: now,
+            };
+        }
+        descriptions[i as usize] = description;
+        now = served.session;
+        i = i + 1;
+    }
+    Drained {
+        answer: Report {
+            answer: DrainAnswer::Count(i),
+            descriptions,
+        },
+        session: now,
+    }
+}
+
+// Serves until a serve waits or the budget is spent; the i-th answer is described, and where it is a packet its bytes stand at 1,080 i.
+pub fn drain(session: Session, out: &mut [u8], store: &[u8], budget: u32) -> Drained
+    ensures { λ r. ⌜ (drainSaid (r .answer .answer) ≡ counted (drainOf session (now (out .entry)) (now (store .entry)) budget .said)) × ((r .answer .descriptions ≡ descriptions (drainOf session (now (out .entry)) (now (store .entry)) budget .said)) × ((r .session ≡ drainOf session (now (out .entry)) (now (store .entry)) budget .session) × ((now (out .exit) ≡ drainOf session (now (out .entry)) (now (store .entry)) budget .bytes) × (r .session .window .next ≡ session .window .next + countSaid (drainSaid (r .answer .answer)))))) ⌝ }
+{
+    let n = drain_refusal(session, store.len(), out.len(), budget);
+    if n != 0 {
+        let descriptions = [Description {
+            kind: 0,
+            position: 0,
+        }; 32];
+        return Drained {
+            answer: Report {
+                answer: DrainAnswer::Refused(n),
+                descriptions,
+            },
+            session,
+        };
+    }
+    run(session, out, store, budget)
+}
+
+// Passes next over, by hand.
+pub fn pass(session: Session) -> Passed
+    ensures { λ r. ⌜ (passSaid (r .answer) ≡ passOf session .said) × (r .session ≡ passOf session .session) ⌝ }
+{
+    if reorder::is_broken(session) {
+        return Passed {
+            answer: PassAnswer::Refused(30),
+            session,
+        };
+    }
+    let window = session.window;
+    let next = window.next;
+    if next == 1_000_000 {
+        return Passed {
+            answer: PassAnswer::Refused(28),
+            session,
+        };
+    }
+    if window::is_held(window, next) {
+        return Passed {
+            answer: PassAnswer::Refused(26),
+            session,
+        };
+    }
+    let after = Window {
+        next: next + 1,
+        marks: window.marks,
+    };
+    Passed {
+        answer: PassAnswer::Missing(next),
+        session: reorder::with_window(session, after),
+    }
+}
