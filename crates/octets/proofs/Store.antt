@@ -5,8 +5,8 @@ use mathlib.Core.List.{List, [], _∷_, _++_, append-nil, append-assoc}
 use native.Mathlib.Numerals.{add-one}
 use native.Mathlib.Decide.{decLe}
 use native.Mathlib.Omega.{arith}
-use lib.ListN.{length, getD, set, take, drop, length-set, length-append, drop-of-length-le, take-append-drop}
-use lib.Seq.{sets, sets-eq, set-out, length-sets, take-suc, take-all, length-take-le, take-at, drop-at, drop-drop}
+use lib.ListN.{length, getD, set, take, drop, length-set, length-append, length-drop, drop-of-length-le, take-append-drop}
+use lib.Seq.{sets, sets-eq, set-out, length-sets, take-suc, take-all, length-take-le, take-at, take-append-le, drop-at, drop-append-le, drop-drop}
 use Rattle.octets.specs.Bytes.{part, put}
 use Rattle.octets.proofs.Codec.{part-length}
 
@@ -58,6 +58,32 @@ put-there s b i h =
     let r : List ℕ = drop (i + length b) s in
     ap (λ (l : List ℕ). part l i (length b)) (put-splice s b i h)
     ∙ ap (take (length b)) (drop-at (take i s) (b ++ r) i n) ∙ take-at b r (length b) refl
+
+-- a part of the front of a list
+part-front : (l r : List ℕ) (j n : ℕ) → j + n ≤ length l → part (l ++ r) j n ≡ part l j n
+part-front l r j n h =
+    ap (take n) (drop-append-le j l r (omega arith)) ∙ take-append-le n (drop j l) r (omega (arith, length-drop j l))
+
+-- the bytes before and after those stored are as they were
+pub put-before : (s b : List ℕ) (i j n : ℕ) → i + length b ≤ length s → j + n ≤ i → part (put s i b) j n ≡ part s j n
+put-before s b i j n h l =
+    let e : length (take i s) ≡ i = length-take-le i s (omega arith) in
+    ap (λ (x : List ℕ). part x j n) (put-splice s b i h)
+    ∙ part-front (take i s) (b ++ drop (i + length b) s) j n (omega arith)
+    ∙ sym (part-front (take i s) (drop i s) j n (omega arith))
+    ∙ ap (λ (x : List ℕ). part x j n) (take-append-drop i s)
+
+pub put-after : (s b : List ℕ) (i j n : ℕ) → i + length b ≤ length s → i + length b ≤ j → part (put s i b) j n ≡ part s j n
+put-after s b i j n h l =
+    let k : ℕ = i + length b in
+    let m : ℕ = j - k in
+    let q : k + m ≡ j = omega arith in
+    let e : length (take i s ++ b) ≡ k = length-append (take i s) b ∙ ap (λ (x : ℕ). x + length b) (length-take-le i s (omega arith)) in
+    let d : drop k (put s i b) ≡ drop k s =
+    ap (drop k) (put-splice s b i h ∙ sym (append-assoc (take i s) b (drop k s))) ∙ drop-at (take i s ++ b) (drop k s) k e in
+    ap (λ (x : ℕ). part (put s i b) x n) (sym q)
+    ∙ ap (take n) (sym (drop-drop m k (put s i b)) ∙ ap (drop m) d ∙ drop-drop m k s)
+    ∙ ap (λ (x : ℕ). part s x n) q
 
 -- bytes stored where they stand
 pub put-same : (s : List ℕ) (i n : ℕ) → i + n ≤ length s → put s i (part s i n) ≡ s

@@ -1,3 +1,4 @@
 pub mod Said
 pub mod Placing
 pub mod Whole
+pub mod Taken

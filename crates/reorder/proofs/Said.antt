@@ -2,6 +2,7 @@
 use Prim.Native.Nat.{ℕ, zero, suc}
 use mathlib.Core.Path.{_≡_, refl, sym, ap, _∙_}
 use mathlib.Core.List.{List}
+use native.Mathlib.Omega.{arith}
 use Rattle.octets.specs.Refusal.{Said, refused, answered}
 use Rattle.octets.proofs.Ladder.{refusal-said}
 use Rattle.packet.specs.Fields.{fieldsOf}
@@ -25,6 +26,30 @@ module _ {A : Type 0} (s : Session) (b : List ℕ) (f : A → Session) (g : A �
     ap (λ (y : Said A). outcome y s b f g .said) e,
     (p ∙ ap (λ (y : Said A). outcome y s b f g .session) e, q ∙ ap (λ (y : Said A). outcome y s b f g .bytes) e),
   )
+
+-- what holds of a call's outcome, by what it says
+pub outcome-cases : {A : Type 0} (P : Session → List ℕ → Type 0) (x : Said A) (s : Session) (b : List ℕ) (f : A → Session) (g : A → List ℕ)
+    → P s b → ((a : A) → x ≡ answered a → P (f a) (g a)) → P (outcome x s b f g .session) (outcome x s b f g .bytes)
+outcome-cases P (refused n) s b f g h k = h
+outcome-cases P (answered a) s b f g h k = k a refl
+
+-- a call that answers has said so, and leaves what its answer does
+pub record Left {A : Type 0} (x : Said A) (s : Session) (b : List ℕ) (f : A → Session) (g : A → List ℕ) (a : A) : Type 0 where
+  pub answer : x ≡ answered a
+  pub session : outcome x s b f g .session ≡ f a
+  pub bytes : outcome x s b f g .bytes ≡ g a
+
+pub left : {A : Type 0} (x : Said A) (s : Session) (b : List ℕ) (f : A → Session) (g : A → List ℕ) (a : A) → outcome x s b f g .said ≡ answered a → Left x s b f g a
+left (refused n) s b f g a e = let z : _≡_ {A = ℕ} 0 1 = cc in absurd (omega arith)
+left (answered y) s b f g a e =
+    let i : y ≡ a = cc in
+    record { answer = e; session = ap f i; bytes = ap g i }
+
+-- and one that refuses leaves what was there
+pub left-refused : {A : Type 0} (x : Said A) (s : Session) (b : List ℕ) (f : A → Session) (g : A → List ℕ) (n : ℕ) → outcome x s b f g .said ≡ refused n
+    → (outcome x s b f g .session ≡ s) × (outcome x s b f g .bytes ≡ b)
+left-refused (refused m) s b f g n e = (refl, refl)
+left-refused (answered y) s b f g n e = let z : _≡_ {A = ℕ} 0 1 = cc in absurd (omega arith)
 
 -- a ladder's refusal is said, or what comes next
 pub refusing-now : {A : Type 0} (n m : ℕ) (x : Said A) → n ≡ m → (n ≡ 0 → ⊥) → refused n ≡ refusing m x

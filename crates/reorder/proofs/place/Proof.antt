@@ -47,8 +47,8 @@ low c =
 
 asked : (c : tie.After-is-held) → let k = c .before .before .before .before in c .is-held .result ≡ heldAt (window k) (natAbs (at k))
 asked c =
-    let f : SFits w64 (at (c .before .before .before .before)) = fits-i64 (c .before .before .before .before) in
-    c .is-held .ensures ∙ simp (toZ-ofZ w64)
+    let k = c .before .before .before .before in
+    c .is-held .ensures ∙ ap (λ (x : ℤ). heldAt (window k) (natAbs x)) (toZ-ofZ w64 (at k) (fits-i64 k))
 
 enum-known-located : tie.Need-enum-known-located
 enum-known-located c = search needs

@@ -1,0 +1,5 @@
+pub mod Kept
+pub mod Pieces
+pub mod Drains
+pub mod Bytes
+pub mod Again

@@ -1,0 +1,4 @@
+pub mod Keeps
+pub mod Serves
+pub mod Held
+pub mod Room

@@ -1,0 +1,25 @@
+-- Freed room is used again: where next has moved on from p, position p + 32 is free and has p's 1,080 bytes.
+use Prim.Native.Nat.{ℕ, _+_, _≤_}
+use mathlib.Core.Path.{_≡_}
+use mathlib.Core.List.{List}
+use lib.IntN.{pos}
+use lib.ListN.{length}
+use Rattle.octets.specs.Refusal.{answered}
+use Rattle.packet.specs.Fields.{fieldsOf}
+use Rattle.packet.specs.Read.{readRefusal}
+use Rattle.reorder.specs.declared.Session.{Session}
+use Rattle.reorder.specs.Session.{slotStart}
+use Rattle.reorder.specs.Offer.{positionOf, offerOf}
+use Rattle.reorder_serve.specs.Turn.{packet, missing}
+use Rattle.reorder_serve.specs.Serve.{serveOf, passOf}
+
+-- a packet b that is accepted and whose position is p + 32, one of those served, is taken by an offer to t, into p's bytes of the store
+pub record TakesAgain (t : Session) (store : List ℕ) (p : ℕ) : Type 0 where
+  pub taken : (b : List ℕ) → readRefusal b (t .«sum_word») ≡ 0 → positionOf t (fieldsOf b) ≡ answered (pos (p + 32)) → p + 32 ≤ 999999
+      → offerOf t store b .said ≡ answered (p + 32)
+  pub same-bytes : slotStart (p + 32) ≡ slotStart p
+
+pub record RoomIsUsedAgain : Type 0 where
+  pub after-packet : (s : Session) (out store : List ℕ) (p : ℕ) → serveOf s out store .said ≡ answered (packet p) → TakesAgain (serveOf s out store .session) store p
+  pub after-missing : (s : Session) (out store : List ℕ) (p : ℕ) → serveOf s out store .said ≡ answered (missing p) → TakesAgain (serveOf s out store .session) store p
+  pub after-pass : (s : Session) (store : List ℕ) (p : ℕ) → passOf s .said ≡ answered p → length store ≡ 34560 → TakesAgain (passOf s .session) store p
