@@ -1,11 +1,12 @@
 -- Document 01, "Numbers to check by": the cases marked P, as one table. Each row is computed by the definitions that the contracts cite.
-use Prim.Native.Nat.{ℕ, suc, _+_, _-_, _^_}
+use Prim.Native.Nat.{ℕ, suc, _+_, _-_, _*_, _^_}
 use mathlib.Core.Path.{_≡_}
 use mathlib.Core.Bool.{true, false}
 use mathlib.Core.List.{List, [], _∷_, _++_}
 use lib.IntN.{pos, negℤ}
 use lib.ListN.{replicate}
 use Rattle.octets.specs.Bytes.{octetsOf, put}
+use Rattle.octets.specs.Refusal.{refused, answered}
 use Rattle.octets.specs.Table.{table}
 use Rattle.layout.specs.Column.{Column}
 use Rattle.checksum.specs.Sum.{wordAt}
@@ -21,13 +22,20 @@ use Rattle.pedr_flags.specs.Encoder.{encoderOf}
 use Rattle.pedr.specs.Time.{timeInMicros}
 use Rattle.pedr.specs.Fields.{timeOf}
 use Rattle.pedr.specs.Read.{recordRefusal}
+use Rattle.position.specs.declared.Anchor.{Anchor}
+use Rattle.position.specs.Position.{position, publishedTolerance}
+use Rattle.window.specs.Window.{holding}
+use Rattle.reorder.specs.declared.Session.{Session}
+use Rattle.reorder.specs.Offer.{offerSaid, firstWindow}
+use Rattle.reorder_serve.specs.Turn.{missing, waiting, turn}
+use Rattle.reorder_serve.specs.Serve.{serveRefusal}
 
--- the free fields of a packet with this count, all others zero
-unfoldable pub counted : ℕ → PacketFields
-counted n = record {
+-- the free fields of a packet with this count and coarse time, all others zero
+unfoldable pub counted : ℕ → ℕ → PacketFields
+counted n t = record {
   «error_status» = 0;
   count = n;
-  «coarse_time» = 0;
+  «coarse_time» = t;
   «fine_time» = 0;
   «status_register» = 0;
   «software_version» = 0;
@@ -42,9 +50,12 @@ counted n = record {
   hstart = 0;
 }
 
--- the packet with this count, the sum's place 53, all free bytes zero
+-- the packet with this count and time, the sum's place 53, all other free bytes zero
+unfoldable pub timedPacket : ℕ → ℕ → List ℕ
+timedPacket n t = packetOf (counted n t) noArrays (replicate 974 0) 53
+
 unfoldable pub zeroPacket : ℕ → List ℕ
-zeroPacket n = packetOf (counted n) noArrays (replicate 974 0) 53
+zeroPacket n = timedPacket n 0
 
 -- the bytes s with the number x in the column c, and with -x there
 infixl 4 _with_at_ _with-minus_at_
@@ -63,6 +74,22 @@ qualityRecord q n = zeroRecord with q at qualityNumber with n at qualityCounter
 
 unfoldable pub timeRecord : ℕ → ℕ → List ℕ
 timeRecord whole micros = zeroRecord with-minus whole at timeWhole with-minus micros at timeMicros
+
+-- the anchor with c0 16,380 and t0 1,000,000, and a session that it opens
+abbrev pub anchor : Anchor
+anchor = record { count = 16380; time = 1000000 }
+
+abbrev pub anchored : Session
+anchored = record { anchor = anchor; «sum_word» = 53; threshold = 3; window = firstWindow }
+
+-- next 0, H 3, and only this position held; the anchor has count 0 and time 0
+abbrev pub holdingOnly : ℕ → Session
+holdingOnly p = record {
+  anchor = record { count = 0; time = 0 };
+  «sum_word» = 53;
+  threshold = 3;
+  window = holding (record { next = 0; marks = 0 }) p;
+}
 
 pub record Numbers : Type 0 where
   -- count 0, place 53, all free bytes zero: sum 35 + 49,152 + 1,073 = 50,260
@@ -100,3 +127,21 @@ pub record Numbers : Type 0 where
   pub time-in-micros : timeInMicros (timeOf (timeRecord 187606958 864490)) ≡ negℤ (pos 187606958864490)
   -- µs -1,000,000 gives 13
   pub micros-refused : recordRefusal (timeRecord 0 1000000) ≡ 13
+  -- c0 16,380, t0 1,000,000. Count 5 at 1,000,126 is position 9; at 1,229,502 it is 16,393; at 1,003,726 still 9; at 1,003,727 gives 21
+  pub at-1000126 : position anchor 5 1000126 publishedTolerance ≡ answered (pos 9)
+  pub at-1229502 : position anchor 5 1229502 publishedTolerance ≡ answered (pos 16393)
+  pub at-1003726 : position anchor 5 1003726 publishedTolerance ≡ answered (pos 9)
+  pub at-1003727 : position anchor 5 1003727 publishedTolerance ≡ refused 21
+  pub offer-1000126 : offerSaid anchored 34560 (timedPacket 5 1000126) ≡ answered 9
+  pub offer-1003727 : offerSaid anchored 34560 (timedPacket 5 1003727) ≡ refused 21
+  -- count 16,379 at 999,986 is -1: 23
+  pub at-999986 : position anchor 16379 999986 publishedTolerance ≡ answered (negℤ (pos 1))
+  pub offer-999986 : offerSaid anchored 34560 (timedPacket 16379 999986) ≡ refused 23
+  -- next 0, H 3, only position 2 held: Waiting; only 3 held: Missing 0
+  pub serve-2-held : serveRefusal (holdingOnly 2) 34560 1080 ≡ 0
+  pub only-2-held : turn (holdingOnly 2) ≡ waiting
+  pub serve-3-held : serveRefusal (holdingOnly 3) 34560 1080 ≡ 0
+  pub only-3-held : turn (holdingOnly 3) ≡ missing 0
+  -- position 31 is held, 32 gives 25
+  pub position-31 : offerSaid (holdingOnly 2) 34560 (timedPacket 31 (14 * 31)) ≡ answered 31
+  pub position-32 : offerSaid (holdingOnly 2) 34560 (timedPacket 32 (14 * 32)) ≡ refused 25

@@ -1,9 +1,10 @@
 -- Every row by computation.
 use mathlib.Core.Path.{refl}
 use Rattle.octets.specs.Bytes.{put}
-use Rattle.octets.specs.Refusal.{refuse_unless_else_, _then_}
+use Rattle.octets.specs.Refusal.{refuse_unless_else_, _then_, say}
 use Rattle.checksum.specs.Sum.{wordSum, zeroed, packetSum}
 use Rattle.packet.specs.Bins.{firstBin}
+use Rattle.packet.specs.Fields.{fieldsOf}
 use Rattle.packet.specs.Header.{headerRefusal}
 use Rattle.packet.specs.Read.{readRefusal}
 use Rattle.packet_writer.specs.Write.{histogramOf, unsummed, packetOf}
@@ -11,12 +12,19 @@ use Rattle.numbers.specs.Bit.{bitsSet}
 use Rattle.pedr_flags.specs.Quality.{qualityOf}
 use Rattle.pedr.specs.Fields.{timeOf}
 use Rattle.pedr.specs.Read.{recordRefusal}
-use Rattle.worked.specs.Numbers.{counted, zeroPacket, zeroRecord, qualityRecord, timeRecord}
+use Rattle.position.specs.Position.{position}
+use Rattle.window.specs.Window.{heldAt, someAmong, someHeld}
+use Rattle.reorder.specs.Session.{pastEnd, broken}
+use Rattle.reorder.specs.Outcome.{refusing}
+use Rattle.reorder.specs.Offer.{placeRefusal, placed, offerSaid}
+use Rattle.reorder_serve.specs.Turn.{turn}
+use Rattle.reorder_serve.specs.Serve.{serveRefusal}
+use Rattle.worked.specs.Numbers.{counted, timedPacket, zeroPacket, zeroRecord, qualityRecord, timeRecord}
 use Rattle.worked.proofs.worked_numbers.Statement.{statement}
 use Rattle.worked.proofs.worked_numbers.Tie as tie
 
 returns : tie.Need-returns
-unfolding put refuse_unless_else_ _then_ wordSum zeroed packetSum firstBin headerRefusal readRefusal histogramOf unsummed packetOf counted zeroPacket zeroRecord qualityRecord timeRecord bitsSet qualityOf timeOf recordRefusal
+unfolding put refuse_unless_else_ _then_ wordSum zeroed packetSum firstBin headerRefusal readRefusal histogramOf unsummed packetOf fieldsOf counted timedPacket zeroPacket zeroRecord qualityRecord timeRecord bitsSet qualityOf timeOf recordRefusal say position heldAt someAmong someHeld pastEnd broken refusing placeRefusal placed offerSaid turn serveRefusal
 returns c =
     record {
       sum-of-count-0 = refl;
@@ -44,6 +52,20 @@ returns c =
       time-micros = refl;
       time-in-micros = refl;
       micros-refused = refl;
+      at-1000126 = refl;
+      at-1229502 = refl;
+      at-1003726 = refl;
+      at-1003727 = refl;
+      offer-1000126 = refl;
+      offer-1003727 = refl;
+      at-999986 = refl;
+      offer-999986 = refl;
+      serve-2-held = refl;
+      only-2-held = refl;
+      serve-3-held = refl;
+      only-3-held = refl;
+      position-31 = refl;
+      position-32 = refl;
     }
 
 pub worked-numbers-spec : {M : Type 1} → statement M
