@@ -107,7 +107,9 @@ fn judge(session: Session, store_size: usize, packet: &[u8]) -> OfferAnswer
 
 // Holds the packet at its position, in the position's 1,080 bytes of the store.
 pub fn offer(session: Session, store: &mut [u8], packet: &[u8]) -> Offered
-    ensures { λ r. ⌜ (said (r .answer) ≡ offerOf session (now (store .entry)) (now (packet .entry)) .said) × ((r .session ≡ offerOf session (now (store .entry)) (now (packet .entry)) .session) × (now (store .exit) ≡ offerOf session (now (store .entry)) (now (packet .entry)) .bytes)) ⌝ }
+    ensures { λ r. ⌜ (said (r .answer) ≡ offerOf session (now (store .entry)) (now (packet .entry)) .said)
+        × ((r .session ≡ offerOf session (now (store .entry)) (now (packet .entry)) .session)
+        × (now (store .exit) ≡ offerOf session (now (store .entry)) (now (packet .entry)) .bytes)) ⌝ }
 {
     let answer = judge(session, store.len(), packet);
     let OfferAnswer::Held(p) = answer else {
@@ -129,7 +131,9 @@ pub fn open_or(
     threshold: u32,
     sum_word: u16,
 ) -> Offered
-    ensures { λ r. ⌜ (said (r .answer) ≡ openOf session (now (store .entry)) (now (packet .entry)) threshold «sum_word» .said) × ((r .session ≡ openOf session (now (store .entry)) (now (packet .entry)) threshold «sum_word» .session) × (now (store .exit) ≡ openOf session (now (store .entry)) (now (packet .entry)) threshold «sum_word» .bytes)) ⌝ }
+    ensures { λ r. ⌜ (said (r .answer) ≡ openOf session (now (store .entry)) (now (packet .entry)) threshold «sum_word» .said)
+        × ((r .session ≡ openOf session (now (store .entry)) (now (packet .entry)) threshold «sum_word» .session)
+        × (now (store .exit) ≡ openOf session (now (store .entry)) (now (packet .entry)) threshold «sum_word» .bytes)) ⌝ }
 {
     if threshold < 1 {
         return Offered {
@@ -175,7 +179,9 @@ pub fn open_or(
 
 // The same where no session is given: a refused opening returns one of all zeros.
 pub fn open(store: &mut [u8], packet: &[u8], threshold: u32, sum_word: u16) -> Offered
-    ensures { λ r. ⌜ (said (r .answer) ≡ openOf noSession (now (store .entry)) (now (packet .entry)) threshold «sum_word» .said) × ((r .session ≡ openOf noSession (now (store .entry)) (now (packet .entry)) threshold «sum_word» .session) × (now (store .exit) ≡ openOf noSession (now (store .entry)) (now (packet .entry)) threshold «sum_word» .bytes)) ⌝ }
+    ensures { λ r. ⌜ (said (r .answer) ≡ openOf noSession (now (store .entry)) (now (packet .entry)) threshold «sum_word» .said)
+        × ((r .session ≡ openOf noSession (now (store .entry)) (now (packet .entry)) threshold «sum_word» .session)
+        × (now (store .exit) ≡ openOf noSession (now (store .entry)) (now (packet .entry)) threshold «sum_word» .bytes)) ⌝ }
 {
     let anchor = Anchor { count: 0, time: 0 };
     let window = Window { next: 0, marks: 0 };

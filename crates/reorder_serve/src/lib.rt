@@ -62,7 +62,9 @@ pub struct Drained {
 fn step(session: Session, out: &mut [u8], store: &[u8], i: u32) -> Served
     requires { ⌜ session .window .next < 4294967295 ⌝ }
     requires { ⌜ length (now store) ≡ 34560 ⌝ }
-    ensures { λ r. ⌜ (serveSaid (r .answer) ≡ answered (turn session)) × ((r .session ≡ turned session (turn session)) × (now (out .exit) ≡ shown i (now (store .entry)) (now (out .entry)) (turn session))) ⌝ }
+    ensures { λ r. ⌜ (serveSaid (r .answer) ≡ answered (turn session))
+        × ((r .session ≡ turned session (turn session))
+        × (now (out .exit) ≡ shown i (now (store .entry)) (now (out .entry)) (turn session))) ⌝ }
 {
     let window = session.window;
     let next = window.next;
@@ -112,7 +114,9 @@ fn serve_refusal(session: Session, store_size: usize, out_size: usize) -> u8
 
 // Serves the next position.
 pub fn serve(session: Session, out: &mut [u8], store: &[u8]) -> Served
-    ensures { λ r. ⌜ (serveSaid (r .answer) ≡ serveOf session (now (out .entry)) (now (store .entry)) .said) × ((r .session ≡ serveOf session (now (out .entry)) (now (store .entry)) .session) × (now (out .exit) ≡ serveOf session (now (out .entry)) (now (store .entry)) .bytes)) ⌝ }
+    ensures { λ r. ⌜ (serveSaid (r .answer) ≡ serveOf session (now (out .entry)) (now (store .entry)) .said)
+        × ((r .session ≡ serveOf session (now (out .entry)) (now (store .entry)) .session)
+        × (now (out .exit) ≡ serveOf session (now (out .entry)) (now (store .entry)) .bytes)) ⌝ }
 {
     let n = serve_refusal(session, store.len(), out.len());
     if n != 0 {
@@ -172,7 +176,10 @@ fn run(session: Session, out: &mut [u8], store: &[u8], budget: u32) -> Drained
     requires { ⌜ session .window .next ≤ 1000000 ⌝ }
     requires { ⌜ length (now store) ≡ 34560 ⌝ }
     requires { ⌜ budget ≤ 32 ⌝ }
-    ensures { λ r. ⌜ (drainSaid (r .answer .answer) ≡ answered (length (turns budget session))) × ((r .answer .descriptions ≡ describedAll (turns budget session)) × ((r .session ≡ turnedAll session (turns budget session)) × (now (out .exit) ≡ shownAll 0 (now (store .entry)) (now (out .entry)) (turns budget session)))) ⌝ }
+    ensures { λ r. ⌜ (drainSaid (r .answer .answer) ≡ answered (length (turns budget session)))
+        × ((r .answer .descriptions ≡ describedAll (turns budget session))
+        × ((r .session ≡ turnedAll session (turns budget session))
+        × (now (out .exit) ≡ shownAll 0 (now (store .entry)) (now (out .entry)) (turns budget session)))) ⌝ }
 {
     let mut now = session;
     let mut i: u32 = 0;
@@ -208,7 +215,11 @@ fn run(session: Session, out: &mut [u8], store: &[u8], budget: u32) -> Drained
 
 // Serves until a serve waits or the budget is spent; the i-th answer is described, and where it is a packet its bytes stand at 1,080 i.
 pub fn drain(session: Session, out: &mut [u8], store: &[u8], budget: u32) -> Drained
-    ensures { λ r. ⌜ (drainSaid (r .answer .answer) ≡ counted (drainOf session (now (out .entry)) (now (store .entry)) budget .said)) × ((r .answer .descriptions ≡ descriptions (drainOf session (now (out .entry)) (now (store .entry)) budget .said)) × ((r .session ≡ drainOf session (now (out .entry)) (now (store .entry)) budget .session) × ((now (out .exit) ≡ drainOf session (now (out .entry)) (now (store .entry)) budget .bytes) × (r .session .window .next ≡ session .window .next + countSaid (drainSaid (r .answer .answer)))))) ⌝ }
+    ensures { λ r. ⌜ (drainSaid (r .answer .answer) ≡ counted (drainOf session (now (out .entry)) (now (store .entry)) budget .said))
+        × ((r .answer .descriptions ≡ descriptions (drainOf session (now (out .entry)) (now (store .entry)) budget .said))
+        × ((r .session ≡ drainOf session (now (out .entry)) (now (store .entry)) budget .session)
+        × ((now (out .exit) ≡ drainOf session (now (out .entry)) (now (store .entry)) budget .bytes)
+        × (r .session .window .next ≡ session .window .next + countSaid (drainSaid (r .answer .answer)))))) ⌝ }
 {
     let n = drain_refusal(session, store.len(), out.len(), budget);
     if n != 0 {
