@@ -144,6 +144,21 @@ le-as x y n m h = go (leb n m) refl
     go true e = omega (ints, leb-true)
     go false e = omega (ints, leb-false)
 
+-- ---- x from -n to n
+
+module _ (x : ℤ) (n : ℕ) where
+  -- from -n on, the upper bound decides
+  pub abs-above : leZ (pos 0 -ℤ pos n) x ≡ true → leZ x (pos n) ≡ leb (natAbs x) n
+  abs-above e = go (leb (natAbs x) n) refl
+    where
+      go : (b : Bool) → leb (natAbs x) n ≡ b → leZ x (pos n) ≡ b
+      go true h = omega (ints, leb-true, abs x)
+      go false h = omega (ints, leb-false, abs x, minus (pos 0) (pos n))
+
+  -- below -n no bound holds
+  pub abs-below : leZ (pos 0 -ℤ pos n) x ≡ false → leb (natAbs x) n ≡ false
+  abs-below e = lt-leb (natAbs x) n (omega (ints, abs x, minus (pos 0) (pos n)))
+
 -- ---- the quotient rounded down
 
 -- q is x / m rounded down: m q ≤ x, and x < m q + m

@@ -8,7 +8,7 @@ use Rattle.octets.proofs.Ladder.{refusal-said}
 use Rattle.packet.specs.Fields.{fieldsOf}
 use Rattle.packet.specs.Read.{readRefusal, readSaid}
 use Rattle.reorder.specs.declared.Session.{Session}
-use Rattle.reorder.specs.Outcome.{Outcome, outcome, refusing}
+use Rattle.reorder.specs.Outcome.{outcome, refusing}
 
 module _ {A : Type 0} (s : Session) (b : List ℕ) (f : A → Session) (g : A → List ℕ) where
   -- a refusal leaves the session and the bytes as they were

@@ -1,24 +1,21 @@
 -- Freed room is used again: where next has moved on from p, position p + 32 has come into the window, and isn't held.
-use Prim.Native.Nat.{ℕ, _+_, _*_, _%_, _≤_, _<_}
+use Prim.Native.Nat.{ℕ, _+_, _*_, _%_, _≤_}
 use mathlib.Core.Path.{_≡_, refl, sym, ap, _∙_, subst}
-use mathlib.Core.Bool.{true, false, not}
+use mathlib.Core.Bool.{false, not}
 use mathlib.Core.List.{List, []}
 use mathlib.Core.Logic.{_⊎_, inl, inr}
 use native.Mathlib.Omega.{arith}
 use borrow.Author.Tests.{le-leb}
-use lib.IntN.{ℤ, pos}
+use lib.IntN.{pos}
 use lib.ListN.{length}
-use lib.Signed.{leZ}
-use Rattle.octets.specs.Refusal.{Said, answered, say}
+use Rattle.octets.specs.Refusal.{answered, say}
 use Rattle.octets.proofs.Ladder.{pass, pass-eq, say-answered, answer-said}
-use Rattle.packet.specs.Fields.{fieldsOf}
-use Rattle.packet.specs.Read.{readRefusal}
 use Rattle.window.specs.declared.Window.{Window}
-use Rattle.window.specs.Window.{heldAt, freed, skipped}
+use Rattle.window.specs.Window.{heldAt, skipped}
 use Rattle.window.proofs.Held.{held-above, freed-held, skipped-held}
 use Rattle.reorder.specs.declared.Session.{Session}
-use Rattle.reorder.specs.Session.{broken, withWindow, slotStart}
-use Rattle.reorder.specs.Offer.{placeRefusal, placed, positionOf, offerSaid, offerOf}
+use Rattle.reorder.specs.Session.{withWindow}
+use Rattle.reorder.specs.Offer.{placeRefusal, placed, offerSaid, offerOf}
 use Rattle.reorder.proofs.Said.{leaves, refusing-next, left}
 use Rattle.reorder.proofs.Whole.{Whole, unbroken}
 use Rattle.reorder_serve.specs.Turn.{Turn, packet, missing, waiting, turn, turned, shown}

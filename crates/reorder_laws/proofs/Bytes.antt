@@ -1,5 +1,5 @@
 -- A held packet's bytes: they go in at its position, no other call touches them, and they come out there.
-use Prim.Native.Nat.{ℕ, zero, suc, _+_, _*_, _%_, _≤_, _<_}
+use Prim.Native.Nat.{ℕ, zero, suc, _%_, _≤_}
 use mathlib.Core.Path.{_≡_, refl, sym, ap, _∙_, subst}
 use mathlib.Core.Bool.{true, false, true≢false}
 use mathlib.Core.List.{List, [], _∷_}
@@ -11,12 +11,10 @@ use Rattle.octets.specs.Bytes.{put}
 use Rattle.octets.specs.Refusal.{Said, refused, answered, say}
 use Rattle.octets.proofs.Ladder.{answer-said}
 use Rattle.packet.proofs.Accept.{accepted}
-use Rattle.window.specs.declared.Window.{Window}
 use Rattle.window.specs.Window.{heldAt, holding, freed, skipped}
 use Rattle.window.proofs.Held.{held-least, held-most, freed-held, skipped-held, holding-same, holding-other}
 use Rattle.reorder.specs.declared.Session.{Session}
 use Rattle.reorder.specs.Session.{withWindow, slotStart, slot}
-use Rattle.reorder.specs.Outcome.{outcome}
 use Rattle.reorder.specs.Offer.{offerSaid, offerOf, firstWindow, openSaid, openOf}
 use Rattle.reorder.proofs.Said.{outcome-cases, left, left-refused}
 use Rattle.reorder.proofs.Taken.{Taken, taken-offer, accepted-opening}

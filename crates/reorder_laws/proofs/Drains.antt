@@ -1,5 +1,5 @@
 -- A drain's turns are as many serves: each serve of a session that isn't broken takes one turn.
-use Prim.Native.Nat.{ℕ, zero, suc, _+_, _-_, _*_, _≤_, _<_}
+use Prim.Native.Nat.{ℕ, zero, suc, _+_, _-_, _≤_}
 use mathlib.Core.Path.{_≡_, refl, sym, ap, _∙_, subst}
 use mathlib.Core.Bool.{not}
 use mathlib.Core.List.{List, [], _∷_, _++_, map}
@@ -11,14 +11,14 @@ use Rattle.octets.specs.Refusal.{Said, answered, say}
 use Rattle.octets.proofs.Ladder.{pass, pass-eq, pass-le, say-answered, answer-said}
 use Rattle.reorder.specs.declared.Session.{Session}
 use Rattle.reorder.specs.Session.{slot}
-use Rattle.reorder.specs.Outcome.{Outcome, outcome}
+use Rattle.reorder.specs.Outcome.{outcome}
 use Rattle.reorder.proofs.Said.{left}
 use Rattle.reorder.proofs.Whole.{Whole, unbroken}
 use Rattle.reorder_serve.specs.Turn.{Turn, packet, waiting, turn, turned, shown, turns, turnedAll, shownAll}
 use Rattle.reorder_serve.specs.Serve.{serveRefusal, serveOf, drainRefusal, drainOf}
 use Rattle.reorder_serve.proofs.Turns.{turns-stop}
 use Rattle.reorder_serve.proofs.Ready.{DrainReady, drain-ready}
-use Rattle.reorder_laws.specs.Serves.{serves, sessionAfter, saidBy, bytesBy, answerAt, piece, IsServes, DrainsAreServes}
+use Rattle.reorder_laws.specs.Serves.{serves, sessionAfter, saidBy, bytesBy, answerAt, piece, DrainsAreServes}
 use Rattle.reorder_laws.proofs.Kept.{whole-turned, turns-split}
 use Rattle.reorder_laws.proofs.Pieces.{piece-same, slot-length, shown-packet, shown-other}
 
@@ -175,5 +175,5 @@ drains-are-serves s out store budget ts one e room =
       given = λ i p h.
           drained-packet s out store budget ts d i p h
           ∙ sym (bytes-all store z one room budget s v i p (ap (λ (us : List Turn). answerAt us i) (sym (d .all)) ∙ h));
-      others = λ i l n. drained-other s out store budget ts d i n;
+      others = λ i n. drained-other s out store budget ts d i n;
     }

@@ -1,16 +1,15 @@
 -- What every call keeps: an accepted step leaves a session that isn't broken, a refusal the session itself.
-use Prim.Native.Nat.{ℕ, zero, suc, _+_, _%_, _≤_, _<_}
+use Prim.Native.Nat.{ℕ, zero, suc, _+_, _≤_, _<_}
 use mathlib.Core.Path.{_≡_, refl, sym, ap, _∙_, subst}
-use mathlib.Core.Bool.{Bool, true, false}
+use mathlib.Core.Bool.{true, false}
 use mathlib.Core.List.{List, [], _∷_}
 use mathlib.Core.Logic.{_⊎_, inl, inr}
 use native.Mathlib.Decide.{ℕ-discrete}
 use native.Mathlib.Omega.{arith}
 use lib.ListN.{length}
-use Rattle.octets.specs.Refusal.{Said, refused, answered, say}
+use Rattle.octets.specs.Refusal.{answered, say}
 use Rattle.octets.proofs.Ladder.{answer-said}
 use Rattle.octets.proofs.Store.{put-length}
-use Rattle.packet.specs.declared.PacketFields.{PacketFields}
 use Rattle.packet.specs.Fields.{fieldsOf}
 use Rattle.packet.proofs.Accept.{accepted}
 use Rattle.window.specs.declared.Window.{Window}
@@ -18,7 +17,6 @@ use Rattle.window.specs.Window.{heldAt, holding, freed, skipped}
 use Rattle.window.proofs.Held.{held-least, held-most, freed-held, skipped-held, holding-other}
 use Rattle.reorder.specs.declared.Session.{Session}
 use Rattle.reorder.specs.Session.{broken, withWindow}
-use Rattle.reorder.specs.Outcome.{Outcome, outcome}
 use Rattle.reorder.specs.Offer.{offerSaid, offerOf, firstWindow, opened, openSaid, openOf}
 use Rattle.reorder.proofs.Said.{outcome-cases, left}
 use Rattle.reorder.proofs.Whole.{Whole, whole, unbroken}

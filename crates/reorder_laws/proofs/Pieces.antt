@@ -7,7 +7,7 @@ use native.Mathlib.Omega.{arith}
 use lib.ListN.{length}
 use Rattle.octets.specs.Bytes.{part, put}
 use Rattle.octets.proofs.Codec.{part-length}
-use Rattle.octets.proofs.Store.{put-length, put-there, put-before, put-after}
+use Rattle.octets.proofs.Store.{put-there, put-before, put-after}
 use Rattle.reorder.specs.Session.{slot}
 use Rattle.reorder_serve.specs.Turn.{Turn, packet, missing, waiting, shown, shownAll}
 use Rattle.reorder_serve.proofs.Turns.{shown-length}

@@ -1,5 +1,5 @@
 -- A drain with a budget of b is b serves: as answers, session and bytes.
-use Prim.Native.Nat.{ℕ, zero, suc, _-_, _*_, _≤_, _<_}
+use Prim.Native.Nat.{ℕ, zero, suc, _-_, _*_, _≤_}
 use mathlib.Core.Path.{_≡_}
 use mathlib.Core.List.{List, [], _∷_, _++_, map}
 use lib.ListN.{length, replicate, getD}
@@ -43,7 +43,7 @@ pub record IsServes (s : Session) (out store : List ℕ) (budget : ℕ) (ts : Li
   pub given : (i p : ℕ) → answerAt ts i ≡ packet p
       → piece (drainOf s out store budget .bytes) i ≡ piece (getD (map bytesBy (serves budget s one store)) i []) 0
   -- and where it isn't, the bytes there stay
-  pub others : (i : ℕ) → i < 32 → ((p : ℕ) → answerAt ts i ≡ packet p → ⊥) → piece (drainOf s out store budget .bytes) i ≡ piece out i
+  pub others : (i : ℕ) → ((p : ℕ) → answerAt ts i ≡ packet p → ⊥) → piece (drainOf s out store budget .bytes) i ≡ piece out i
 
 abbrev pub DrainsAreServes : Type 0
 DrainsAreServes =

@@ -1,7 +1,7 @@
 -- What holds where nothing is refused.
-use Prim.Native.Nat.{ℕ, _≤_, _<_}
+use Prim.Native.Nat.{ℕ, _≤_}
 use mathlib.Core.Path.{_≡_}
-use mathlib.Core.Bool.{false, not}
+use mathlib.Core.Bool.{false}
 use borrow.Author.Tests.{eqb-true, eqb-false, leb-true, not-true}
 use lib.Dec.{eqb}
 use Rattle.octets.proofs.Ladder.{passed}

@@ -1,12 +1,12 @@
 -- Laws of one turn of serving, and of several.
-use Prim.Native.Nat.{ℕ, zero, suc, _+_, _-_, _*_, _≤_, _<_}
+use Prim.Native.Nat.{ℕ, zero, suc, _+_, _-_, _≤_, _<_}
 use mathlib.Core.Path.{_≡_, refl, sym, ap, _∙_, subst}
 use mathlib.Core.Bool.{Bool, true, false, cond}
 use mathlib.Core.List.{List, [], _∷_, _++_, map, append-assoc, append-nil}
 use native.Mathlib.Nat.{sub-zero}
 use native.Mathlib.Omega.{arith}
 use lib.ListN.{length, replicate, set, length-append, length-set}
-use Rattle.octets.specs.Refusal.{Said, answered}
+use Rattle.octets.specs.Refusal.{answered}
 use Rattle.octets.proofs.Store.{put-length}
 use Rattle.window.specs.Window.{heldAt, someHeld}
 use Rattle.window.proofs.Held.{some-held, held-none}

@@ -36,12 +36,6 @@ fn output_length(row: u64) -> usize {
     }
 }
 
-// The session and the digest of the store.
-fn after_call(session: Session, store: &[u8]) {
-    show::session(session);
-    show::named(b", store", show::digest(store));
-}
-
 fn offered(answer: OfferAnswer) {
     match answer {
         OfferAnswer::Refused(n) => show::named(b": refused", n as u64),
@@ -77,45 +71,6 @@ fn call_packet(row: u64, session: Session, r: &[u64; SIZE], store: &mut [u8]) ->
     let answer = made.answer;
     offered(answer);
     made.session
-}
-
-// The same with as much of the store as it is to be given.
-fn call_with_store(row: u64, session: Session, r: &[u64; SIZE], store: &mut [u8]) -> Session {
-    let length = store_length(row);
-    show::named(b" store", length as u64);
-    if store.len() < length {
-        return session;
-    }
-    call_packet(row, session, r, &mut store[0..length])
-}
-
-// What the line of an opening or an offer starts with.
-fn head(row: u64, r: &[u64; SIZE]) {
-    let n = cases::call(row);
-    if 2 < n {
-        return show::text(b"offer");
-    }
-    show::text(b"open");
-    if n == 2 {
-        show::text(b"_or");
-    }
-    show::named(b" threshold", registers::threshold(r) as u64);
-    show::named(b" word", registers::sum_word(r) as u64);
-}
-
-// An opening or an offer.
-pub(crate) fn packet_call(
-    row: u64,
-    session: Session,
-    r: &[u64; SIZE],
-    store: &mut [u8],
-) -> Session {
-    head(row, r);
-    build::show(row, r);
-    let after = call_with_store(row, session, r, store);
-    after_call(after, store);
-    show::text(b"\n");
-    after
 }
 
 fn served(answer: ServeAnswer) {
@@ -190,16 +145,6 @@ fn call_with_output(row: u64, session: Session, store: &[u8], out: &mut [u8]) ->
     call_drain(budget(row), session, store, &mut out[0..length])
 }
 
-// The same with as much of the store as it is to be given.
-fn call_with_both(row: u64, session: Session, store: &[u8], out: &mut [u8]) -> Session {
-    let length = store_length(row);
-    show::named(b" store", length as u64);
-    if store.len() < length {
-        return session;
-    }
-    call_with_output(row, session, &store[0..length], out)
-}
-
 // What the output has before a call.
 fn blank(out: &mut [u8]) {
     let mut k = 0;
@@ -209,21 +154,6 @@ fn blank(out: &mut [u8]) {
     }
 }
 
-// A serve or a drain.
-pub(crate) fn output_call(row: u64, session: Session, store: &[u8], out: &mut [u8]) -> Session {
-    if cases::call(row) == 4 {
-        show::text(b"serve");
-    } else {
-        show::named(b"drain", budget(row) as u64);
-    }
-    blank(out);
-    let after = call_with_both(row, session, store, out);
-    after_call(after, store);
-    show::named(b", output", show::digest(out));
-    show::text(b"\n");
-    after
-}
-
 fn passed(answer: PassAnswer) {
     match answer {
         PassAnswer::Refused(n) => show::named(b": refused", n as u64),
@@ -231,13 +161,74 @@ fn passed(answer: PassAnswer) {
     }
 }
 
-pub(crate) fn pass(session: Session) -> Session {
-    show::text(b"pass");
+fn call_pass(session: Session) -> Session {
     let made = reorder_serve::pass(session);
     let answer = made.answer;
     passed(answer);
-    let after = made.session;
-    show::session(after);
+    made.session
+}
+
+// A call of any kind. What it leaves is the session that it returns.
+fn call_any(
+    row: u64,
+    session: Session,
+    r: &[u64; SIZE],
+    store: &mut [u8],
+    out: &mut [u8],
+) -> Session {
+    match cases::call(row) {
+        4 => call_with_output(row, session, store, out),
+        5 => call_with_output(row, session, store, out),
+        6 => call_pass(session),
+        _ => call_packet(row, session, r, store),
+    }
+}
+
+// The same with as much of the store as it is to be given.
+fn call_with_store(
+    row: u64,
+    session: Session,
+    r: &[u64; SIZE],
+    store: &mut [u8],
+    out: &mut [u8],
+) -> Session {
+    let length = store_length(row);
+    show::named(b" store", length as u64);
+    if store.len() < length {
+        return session;
+    }
+    call_any(row, session, r, &mut store[0..length], out)
+}
+
+// What a line starts with: the call, and what it is told.
+fn head(row: u64, r: &[u64; SIZE]) {
+    let n = cases::call(row);
+    show::named(b"call", n);
+    if n < 3 {
+        show::named(b" threshold", registers::threshold(r) as u64);
+        show::entry(registers::sum_word(r) as u64);
+    }
+    if n < 4 {
+        build::show(row, r);
+    }
+    if n == 5 {
+        show::named(b" budget", budget(row) as u64);
+    }
+}
+
+// What it ends with: the session, and digests of the whole store and output.
+fn tail(session: Session, store: &[u8], out: &[u8]) {
+    show::session(session);
+    show::named(b", bytes", show::digest(store));
+    show::entry(show::digest(out));
     show::text(b"\n");
+}
+
+// A call, one line of it, and the session that it leaves.
+pub(crate) fn call(row: u64, r: &[u64; SIZE], store: &mut [u8], out: &mut [u8]) -> Session {
+    head(row, r);
+    blank(out);
+    let after = call_with_store(row, registers::session(r), r, store, out);
+    tail(after, store, out);
     after
 }

@@ -21,7 +21,7 @@ pub const DRAIN: u64 = 5 * CALL; // plus the budget
 
 pub const PASS: u64 = 6 * CALL;
 
-pub const EACH: u64 = 7 * CALL + START; // whether the session is broken; then pass, drain by 32, serve and offer, each from this session
+pub const EACH: u64 = 7 * CALL + START; // pass, drain by 32, serve and offer, each from this session
 
 pub const MAKE: u64 = 10 * CALL; // plus next: a session of the base packet's count and time and what openings are told, with no marks
 

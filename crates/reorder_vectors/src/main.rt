@@ -23,19 +23,33 @@ fn run_all(table: &[u64], store: &mut [u8], out: &mut [u8]) {
     }
 }
 
-fn run_tables(store: &mut [u8], out: &mut [u8]) {
+fn run_first(store: &mut [u8], out: &mut [u8]) {
     run_all(&arrivals::ROWS, store, out);
     run_all(&clocks::ROWS, store, out);
+}
+
+fn run_ends(store: &mut [u8], out: &mut [u8]) {
     run_all(&ends::ROWS, store, out);
+}
+
+fn run_last(store: &mut [u8], out: &mut [u8]) {
     run_all(&refusals::ROWS, store, out);
     run_all(&mixed::ROWS, store, out);
+}
+
+fn run_tables(store: &mut [u8], out: &mut [u8]) {
+    run_first(store, out);
+    run_ends(store, out);
+    run_last(store, out);
 }
 
 // Store and output have a byte more than the calls take, so that a length over the right one can be given too.
 fn main() {
     let mut store = [0; 34561];
     let mut out = [0; 34561];
-    show::text(b"packet: count, coarse time, bytes, damage\n");
+    show::text(b"call: 1 open, 2 open_or, 3 offer, 4 serve, 5 drain, 6 pass\n");
+    show::text(b"threshold and sum word; packet: count, coarse time, bytes, damage\n");
     show::text(b"session: anchor count, anchor time, sum word, threshold, next, marks\n");
+    show::text(b"bytes: digests of the store and the output\n");
     run_tables(&mut store, &mut out);
 }

@@ -4,7 +4,6 @@ use crate::cases;
 use crate::registers;
 use crate::registers::SIZE;
 use crate::show;
-use reorder::Session;
 
 // The store at the start of a history.
 fn fill(store: &mut [u8]) {
@@ -15,37 +14,6 @@ fn fill(store: &mut [u8]) {
     }
 }
 
-// Whether the session is broken, and the four calls that take one, each from this session.
-fn each(row: u64, session: Session, r: &[u64; SIZE], store: &mut [u8], out: &mut [u8]) {
-    let at_store = cases::digit(row, cases::STORE) % 10 * cases::STORE;
-    show::text(b"each");
-    show::session(session);
-    if reorder::is_broken(session) {
-        show::text(b", broken 1\n");
-    } else {
-        show::text(b", broken 0\n");
-    }
-    calls::pass(session);
-    calls::output_call(cases::DRAIN + at_store + 32, session, store, out);
-    calls::output_call(cases::SERVE + at_store, session, store, out);
-    calls::packet_call(row, session, r, store);
-}
-
-// A call, and the session that it leaves.
-fn call(row: u64, r: &[u64; SIZE], store: &mut [u8], out: &mut [u8]) -> Session {
-    let session = registers::session(r);
-    match cases::call(row) {
-        4 => calls::output_call(row, session, store, out),
-        5 => calls::output_call(row, session, store, out),
-        6 => calls::pass(session),
-        7 => {
-            each(row, session, r, store, out);
-            session
-        }
-        _ => calls::packet_call(row, session, r, store),
-    }
-}
-
 fn start(row: u64, r: &mut [u64; SIZE], store: &mut [u8]) {
     show::named(b"history", row % cases::FIELD);
     show::text(b"\n");
@@ -53,40 +21,62 @@ fn start(row: u64, r: &mut [u64; SIZE], store: &mut [u8]) {
     fill(store);
 }
 
-fn once(row: u64, r: &mut [u64; SIZE], store: &mut [u8], out: &mut [u8]) {
+// A row that makes no call.
+fn change(row: u64, r: &mut [u64; SIZE], store: &mut [u8]) {
     match cases::call(row) {
         8 => registers::set(row, r),
         9 => start(row, r, store),
-        10 => registers::make(row % cases::FIELD, r),
-        _ => registers::keep(call(row, r, store, out), r),
+        _ => registers::make(row % cases::FIELD, r),
     }
 }
 
-// How often a row's call is made.
+// How many calls a row makes.
 fn times(row: u64) -> u64 {
     let n = cases::call(row);
     if n < 3 {
         return 1;
     }
-    if 6 < n {
-        return 1;
+    if n == 7 {
+        return 4;
     }
     cases::digit(row, cases::MORE) % 10 + 1
 }
 
-// The row of a call that is made again for the k-th time: an offer's position grows.
+// The k-th call of a row: an offer's position grows; EACH passes, drains, serves and offers.
 fn again(row: u64, k: u64) -> u64 {
-    if cases::call(row) == 3 {
+    let n = cases::call(row);
+    if n == 3 {
         return row % (4 * cases::CALL) + k % 10 * cases::P;
     }
-    row
+    if n != 7 {
+        return row;
+    }
+    let at_store = cases::digit(row, cases::STORE) % 10 * cases::STORE;
+    match k {
+        0 => cases::PASS + at_store,
+        1 => cases::DRAIN + at_store + 32,
+        2 => cases::SERVE + at_store,
+        _ => row % cases::CALL + 3 * cases::CALL,
+    }
 }
 
-pub(crate) fn run(row: u64, r: &mut [u64; SIZE], store: &mut [u8], out: &mut [u8]) {
+// Each call of EACH is made from the same session.
+fn call_row(row: u64, r: &mut [u64; SIZE], store: &mut [u8], out: &mut [u8]) {
     let n = times(row);
     let mut k = 0;
     while k < n {
-        once(again(row, k), r, store, out);
+        let after = calls::call(again(row, k), r, store, out);
+        if cases::call(row) != 7 {
+            registers::keep(after, r);
+        }
         k = k + 1;
+    }
+}
+
+pub(crate) fn run(row: u64, r: &mut [u64; SIZE], store: &mut [u8], out: &mut [u8]) {
+    if cases::call(row) < 8 {
+        call_row(row, r, store, out);
+    } else {
+        change(row, r, store);
     }
 }

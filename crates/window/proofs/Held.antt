@@ -1,15 +1,15 @@
 -- The laws of the window at positions: what is held, before and after each step. No other crate looks at a bit.
 use Prim.Native.Nat.{ℕ, zero, suc, _+_, _-_, _*_, _%_, _^_, _≤_, _<_}
-use mathlib.Core.Path.{_≡_, refl, sym, ap, _∙_}
-use mathlib.Core.Bool.{Bool, true, false, _&&_, _||_, true≢false, false≢true}
+use mathlib.Core.Path.{_≡_, sym, ap, _∙_}
+use mathlib.Core.Bool.{Bool, true, false, _&&_, true≢false, false≢true}
 use mathlib.Core.Logic.{_⊎_, inl, inr}
 use native.Mathlib.Nat.{pow-suc, lt-of-lt-of-le}
 use native.Mathlib.Decide.{decLt, ℕ-discrete}
 use native.Mathlib.Omega.{arith}
-use borrow.Author.Tests.{leb-true, le-leb, lt-leb, eqb-true}
+use borrow.Author.Tests.{leb-true, le-leb, lt-leb}
 use lib.Dec.{eqb, leb}
 use lib.Pow.{pow-mono}
-use Rattle.numbers.specs.Bit.{bit, setBit, clearBit}
+use Rattle.numbers.specs.Bit.{bit, clearBit}
 use Rattle.numbers.proofs.Bits.{bit-set-same, bit-set-other, bit-clear-same, bit-clear-other}
 use Rattle.window.specs.declared.Window.{Window}
 use Rattle.window.specs.Window.{heldAt, someAmong, someHeld, holding, freed, skipped}

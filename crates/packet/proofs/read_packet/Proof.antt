@@ -2,7 +2,6 @@
 use Prim.Native.Nat.{ℕ}
 use mathlib.Core.Path.{_≡_, sym, ap, _∙_}
 use mathlib.Core.List.{List}
-use denote.Ref.{now}
 use Rattle.octets.specs.Refusal.{refused, answered}
 use Rattle.octets.proofs.Ladder.{answer-said, refusal-said, after-refused, after-done}
 use Rattle.packet.specs.Fields.{fieldsOf, arraysOf, noArrays}

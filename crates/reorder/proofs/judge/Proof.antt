@@ -8,7 +8,6 @@ use lib.Dec.{eqb}
 use Rattle.octets.specs.Refusal.{refuse_unless_else_, numberSaid}
 use Rattle.octets.proofs.Ladder.{pass, fail, pass-eq, fail-eq, answer-said}
 use Rattle.packet.specs.declared.PacketAnswer.{PacketAnswer}
-use Rattle.packet.specs.declared.PacketFields.{PacketFields}
 use Rattle.packet.specs.Fields.{fieldsOf}
 use Rattle.packet.specs.Read.{readRefusal, said}
 use Rattle.reorder.specs.Session.{broken}

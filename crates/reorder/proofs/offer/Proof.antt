@@ -1,8 +1,5 @@
 -- What `judge` says decides what is left.
-use Prim.Native.Nat.{_*_, _%_}
-use mathlib.Core.Path.{_≡_, sym, ap, _∙_}
-use Rattle.octets.specs.Refusal.{refused, answered}
-use Rattle.window.specs.declared.Window.{Window}
+use mathlib.Core.Path.{sym, ap, _∙_}
 use Rattle.reorder.specs.Session.{withWindow}
 use Rattle.reorder.specs.Offer.{said, offerOf}
 use Rattle.reorder.proofs.Said.{stays, leaves}

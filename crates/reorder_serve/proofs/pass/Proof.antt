@@ -1,13 +1,10 @@
 -- The rungs of the ladder, and past them next has moved on.
-use Prim.Native.Nat.{ℕ}
 use mathlib.Core.Path.{_≡_, refl, sym, ap, _∙_}
-use mathlib.Core.Bool.{true, false, not}
+use mathlib.Core.Bool.{false, not}
 use mathlib.Core.List.{[]}
 use native.Mathlib.Omega.{arith}
 use borrow.Author.Tests.{eq-eqb, ne-eqb}
-use lib.Dec.{eqb}
 use Rattle.octets.proofs.Ladder.{pass, fail, say-refused, say-answered}
-use Rattle.window.specs.Window.{heldAt}
 use Rattle.reorder.specs.Session.{broken}
 use Rattle.reorder.proofs.Whole.{whole}
 use Rattle.reorder.proofs.Said.{stays, leaves}

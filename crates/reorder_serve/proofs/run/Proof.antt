@@ -1,15 +1,12 @@
 -- The answers so far, and what they leave, are the loop's invariant.
-use Prim.Native.Nat.{ℕ, suc, _+_, _-_, _≤_, _<_}
+use Prim.Native.Nat.{_-_}
 use mathlib.Core.Path.{_≡_, refl, sym, ap, _∙_}
-use mathlib.Core.List.{List, [], _∷_, _++_, append-assoc, append-nil}
-use native.Mathlib.Nat.{sub-zero}
 use native.Mathlib.Omega.{arith}
 use denote.Ref.{now}
-use lib.ListN.{length, length-set, length-append}
-use Rattle.octets.specs.Refusal.{Said, answered}
+use lib.ListN.{length}
 use Rattle.reorder.specs.declared.Session.{Session}
 use Rattle.reorder_serve.specs.declared.Description.{Description}
-use Rattle.reorder_serve.specs.Turn.{Turn, turn, turned, shown, turns, turnedAll, shownAll, described, describedAll}
+use Rattle.reorder_serve.specs.Turn.{turn, shown, described}
 use Rattle.reorder_serve.specs.Serve.{describedSaid}
 use Rattle.reorder_serve.proofs.Turns.{Running, no-kind, shown-length, turns-stop, run-none, run-more, run-done, run-spent}
 use borrow.Author.Needs.{needs}

@@ -1,5 +1,5 @@
 -- The turn by the two tests, and what it leaves.
-use Prim.Native.Nat.{ℕ, _+_, _-_, _*_, _%_}
+use Prim.Native.Nat.{ℕ, _+_, _-_, _*_}
 use mathlib.Core.Path.{_≡_, refl, sym, ap, _∙_}
 use mathlib.Core.Bool.{false}
 use mathlib.Core.List.{List}
@@ -8,7 +8,6 @@ use denote.Ref.{now}
 use lib.ListN.{take, drop}
 use Rattle.octets.specs.Bytes.{part, put}
 use Rattle.window.specs.Window.{heldAt}
-use Rattle.reorder.specs.declared.Session.{Session}
 use Rattle.reorder.specs.Session.{withWindow, slotStart}
 use Rattle.reorder_serve.proofs.Turns.{turn-packet, turn-missing, turn-waiting, did}
 use borrow.Author.Needs.{needs}

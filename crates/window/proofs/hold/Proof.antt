@@ -1,9 +1,8 @@
 -- The position's bit is set.
-use Prim.Native.Nat.{ℕ, _%_}
+use Prim.Native.Nat.{_%_}
 use mathlib.Core.Path.{ap, _∙_}
 use lib.Bits.{bitOr}
 use Rattle.numbers.proofs.Bits.{set-bit}
-use Rattle.window.specs.declared.Window.{Window}
 use borrow.Author.Needs.{needs}
 use Rattle.window.proofs.hold.Statement.{statement}
 use Rattle.window.proofs.hold.Tie as tie

@@ -1,5 +1,4 @@
 -- By the leading zeros of the turned word; nothing is held from next + 32 on.
-use Prim.Native.Nat.{ℕ, _+_}
 use mathlib.Core.Path.{sym}
 use native.Mathlib.Omega.{arith}
 use lib.Count.{leading-le}

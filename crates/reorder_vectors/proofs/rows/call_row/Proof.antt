@@ -3,8 +3,8 @@ use Prim.Native.Nat.{_≤_, _-_}
 use mathlib.Core.Path.{_≡_}
 use lib.ListN.{length}
 use borrow.Author.Needs.{needs}
-use Rattle.reorder_vectors.proofs.rows.run.Statement.{statement}
-use Rattle.reorder_vectors.proofs.rows.run.Tie as tie
+use Rattle.reorder_vectors.proofs.rows.call_row.Statement.{statement}
+use Rattle.reorder_vectors.proofs.rows.call_row.Tie as tie
 
 abbrev Inv-loop : tie.InvT-loop
 Inv-loop row r₀ store₀ out₀ n k₀ r store out k = (k ≤ n) × ((length store ≡ length store₀) × (length out ≡ length out₀))
@@ -21,8 +21,14 @@ loop-holds c = search needs
 again-requires : tie.Need-again-requires Inv-loop μ-loop
 again-requires c κs = search needs
 
-once-requires : tie.Need-once-requires Inv-loop μ-loop
-once-requires c κs = search needs
+call-requires : tie.Need-call-requires Inv-loop μ-loop
+call-requires c κs = search needs
+
+call-requires-2 : tie.Need-call-requires-2 Inv-loop μ-loop
+call-requires-2 c κs = search needs
+
+keep-requires : tie.Need-keep-requires Inv-loop μ-loop
+keep-requires c κs = search needs
 
 add-k : tie.Need-add-k Inv-loop μ-loop
 add-k c = search needs
@@ -42,8 +48,8 @@ same-length-2 c = search needs
 returns : tie.Need-returns Inv-loop μ-loop
 returns c = search needs
 
-pub run-spec : {M : Type 1} → statement M
-run-spec =
+pub call-row-spec : {M : Type 1} → statement M
+call-row-spec =
     tie.close
     (tie.spec
     Inv-loop
@@ -51,7 +57,9 @@ run-spec =
     times-requires
     loop-holds
     again-requires
-    once-requires
+    call-requires
+    call-requires-2
+    keep-requires
     add-k
     loop-less
     loop-again
