@@ -108,8 +108,10 @@ returns-6 c =
     let e = c .before .before .before .before in
     let k = e .before .before .before in
     let f : SFits w64 (at k) = fits-i64 k in
-    simp (toZ-ofZ w64)
-    (fits (window k) (at k) (top (e .before .before)) (low e) (sym (asked (c .before .before .before)) ∙ c .before .before .if3 .left) (simp (toZ-ofZ w64) at (c .if4 .left)) ∙ told k)
+    let free = sym (asked (c .before .before .before)) ∙ c .before .before .if3 .left in
+    ap (λ (x : ℤ). answered (natAbs x)) (toZ-ofZ w64 (at k) f)
+    ∙ fits (window k) (at k) (top (e .before .before)) (low e) free (simp (toZ-ofZ w64) at (c .if4 .left))
+    ∙ told k
 
 pub place-spec : {M : Type 1} → statement M
 place-spec =
