@@ -17,7 +17,7 @@ use Rattle.window.specs.Window.{heldAt}
 use Rattle.reorder.specs.declared.Session.{Session}
 use Rattle.reorder.specs.Session.{broken}
 use Rattle.reorder.specs.Outcome.{refusing}
-use Rattle.reorder.specs.Offer.{placeRefusal, placed, positionOf, offerSaid, openSaid}
+use Rattle.reorder.specs.Offer.{placeRefusal, placed, positionOf, offerRefusal, offerSaid, openRefusal, openSaid}
 use Rattle.reorder.proofs.Whole.{Whole, whole}
 
 -- ---- a position that is placed
@@ -69,7 +69,7 @@ refusing-none zero x a e = (refl, e)
 refusing-none (suc m) x a e = let z : _≡_ {A = ℕ} 0 1 = cc in absurd (omega arith)
 
 pub taken-offer : (s : Session) (size : ℕ) (b : List ℕ) (p : ℕ) → offerSaid s size b ≡ answered p → Taken s size b p
-unfolding offerSaid
+unfolding offerRefusal offerSaid
 taken-offer s size b p e =
     let r = refusing-none _ _ p e in
     let c1 = passed _ 29 _ (r .0) in
@@ -91,7 +91,7 @@ pub record Opened (size : ℕ) (b : List ℕ) (h w p : ℕ) : Type 0 where
   pub first : p ≡ 0
 
 pub accepted-opening : (size : ℕ) (b : List ℕ) (h w p : ℕ) → openSaid size b h w ≡ answered p → Opened size b h w p
-unfolding openSaid
+unfolding openRefusal openSaid
 accepted-opening size b h w p e =
     let a = answer-said {A = ℕ} _ 0 p (sym e) in
     let c1 = passed _ 19 _ (a .0) in

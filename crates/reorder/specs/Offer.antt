@@ -43,14 +43,16 @@ placed w (answered p) = say (placeRefusal w p) (natAbs p)
 abbrev pub positionOf : Session → PacketFields → Said ℤ
 positionOf s f = position (s .anchor) (f .count) (f .«coarse_time») publishedTolerance
 
--- 30, 27: session broken; store, of this size, not 34,560 bytes. Then 1 to 10, then 21 to 25, else the position
-unfoldable pub offerSaid : Session → ℕ → List ℕ → Said ℕ
-offerSaid s size b =
-    refusing (
+-- 30, 27: session broken; store, of this size, not 34,560 bytes. Then the reader's 1 to 10
+unfoldable pub offerRefusal : Session → ℕ → List ℕ → ℕ
+offerRefusal s size b =
     refuse 30 unless not (broken s) else
     refuse 27 unless eqb size 34560 else
     readRefusal b (s .«sum_word»)
-    ) (placed (s .window) (positionOf s (fieldsOf b)))
+
+-- then 21 to 25, else the position
+unfoldable pub offerSaid : Session → ℕ → List ℕ → Said ℕ
+offerSaid s size b = refusing (offerRefusal s size b) (placed (s .window) (positionOf s (fieldsOf b)))
 
 -- holds the packet at p, and answers p: the packet's bytes are p's in the store
 unfoldable pub offerOf : Session → List ℕ → List ℕ → Outcome ℕ
@@ -67,14 +69,16 @@ firstWindow = record { next = 0; marks = 1 }
 abbrev pub opened : PacketFields → ℕ → ℕ → Session
 opened f h w = record { anchor = record { count = f .count; time = f .«coarse_time» }; «sum_word» = w; threshold = h; window = firstWindow }
 
--- 20, 27: patience not 1 to 31; store not 34,560 bytes. Then 1 to 10, else position 0
-unfoldable pub openSaid : ℕ → List ℕ → ℕ → ℕ → Said ℕ
-openSaid size b h w =
-    say (
+-- 20, 27: patience not 1 to 31; store, of this size, not 34,560 bytes. Then the reader's 1 to 10
+unfoldable pub openRefusal : ℕ → List ℕ → ℕ → ℕ → ℕ
+openRefusal size b h w =
     refuse 20 unless within 1 31 h else
     refuse 27 unless eqb size 34560 else
     readRefusal b w
-    ) 0
+
+-- else position 0
+unfoldable pub openSaid : ℕ → List ℕ → ℕ → ℕ → Said ℕ
+openSaid size b h w = say (openRefusal size b h w) 0
 
 -- s is the session that a refused opening leaves
 unfoldable pub openOf : Session → List ℕ → List ℕ → ℕ → ℕ → Outcome ℕ

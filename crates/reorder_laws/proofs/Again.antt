@@ -15,7 +15,7 @@ use Rattle.window.specs.Window.{heldAt, skipped}
 use Rattle.window.proofs.Held.{held-above, freed-held, skipped-held}
 use Rattle.reorder.specs.declared.Session.{Session}
 use Rattle.reorder.specs.Session.{withWindow}
-use Rattle.reorder.specs.Offer.{placeRefusal, placed, offerSaid, offerOf}
+use Rattle.reorder.specs.Offer.{placeRefusal, placed, offerRefusal, offerSaid, offerOf}
 use Rattle.reorder.proofs.Said.{leaves, refusing-next, left}
 use Rattle.reorder.proofs.Whole.{Whole, unbroken}
 use Rattle.reorder_serve.specs.Turn.{Turn, packet, missing, waiting, turn, turned, shown}
@@ -39,7 +39,7 @@ place-free w p lo hi top e =
 -- next has moved on from p, to a session that isn't broken, and the last position of the window is free
 takes-again : (t : Session) (store : List ℕ) (p : ℕ) → Whole t → length store ≡ 34560 → t .window .next ≡ p + 1 → heldAt (t .window) (p + 32) ≡ false
     → TakesAgain t store p
-unfolding offerOf offerSaid
+unfolding offerOf offerRefusal offerSaid
 takes-again t store p v size e free =
     record {
       taken = λ b read at top.

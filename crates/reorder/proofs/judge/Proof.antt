@@ -11,7 +11,7 @@ use Rattle.packet.specs.declared.PacketAnswer.{PacketAnswer}
 use Rattle.packet.specs.Fields.{fieldsOf}
 use Rattle.packet.specs.Read.{readRefusal, said}
 use Rattle.reorder.specs.Session.{broken}
-use Rattle.reorder.specs.Offer.{placed, positionOf, offerSaid}
+use Rattle.reorder.specs.Offer.{placed, positionOf, offerRefusal, offerSaid}
 use Rattle.reorder.proofs.Said.{refusing-now, refusing-next, handed-on}
 use borrow.Author.Needs.{needs}
 use Rattle.reorder.proofs.judge.Statement.{statement}
@@ -23,18 +23,19 @@ whole c = ap not (sym (c .before .is-broken .ensures) ∙ c .if1 .left)
 
 ready : (c : tie.Else2) (r : ℕ) → let k = c .before .before .before .before in
     r ≡ readRefusal (now (k .args .packet)) (k .args .session .«sum_word»)
-    → r ≡ (refuse 30 unless not (broken (k .args .session)) else refuse 27 unless eqb (k .args .store-size) 34560 else readRefusal (now (k .args .packet)) (k .args .session .«sum_word»))
+    → r ≡ offerRefusal (k .args .session) (k .args .store-size) (now (k .args .packet))
+unfolding offerRefusal
 ready c r e = pass _ 30 _ r (whole (c .before)) (pass-eq _ _ 27 _ r (c .if2 .left) e)
 
 is-broken-requires : tie.Need-is-broken-requires
 is-broken-requires c κs = search needs
 
 returns : tie.Need-returns
-unfolding offerSaid
+unfolding offerRefusal offerSaid
 returns c = refusing-now 30 _ _ (fail _ 30 _ (ap not (sym (c .before .is-broken .ensures) ∙ c .if1 .taken))) (λ q. omega arith)
 
 returns-2 : tie.Need-returns-2
-unfolding offerSaid
+unfolding offerRefusal offerSaid
 returns-2 c = refusing-now 27 _ _ (pass _ 30 _ 27 (whole (c .before)) (fail-eq _ _ 27 _ (c .if2 .taken))) (λ q. omega arith)
 
 cast-read-answer : tie.Need-cast-read-answer
@@ -53,7 +54,7 @@ refusal-number-requires : tie.Need-refusal-number-requires
 refusal-number-requires c κs = search needs
 
 returns-3 : tie.Need-returns-3
-unfolding offerSaid
+unfolding offerRefusal offerSaid
 returns-3 c =
     let t = c .before .enum-told .given .1 in
     let a = c .before .before .before in
@@ -67,7 +68,7 @@ place-requires : tie.Need-place-requires
 place-requires c κs = search needs
 
 returns-4 : tie.Need-returns-4
-unfolding offerSaid
+unfolding offerRefusal offerSaid
 returns-4 c =
     let t = c .before .before .before .answer .given .1 in
     let a = c .before .before .before .before .before in

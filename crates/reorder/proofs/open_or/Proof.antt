@@ -11,7 +11,7 @@ use Rattle.packet.specs.declared.PacketAnswer.{PacketAnswer}
 use Rattle.packet.specs.declared.PacketFields.{PacketFields}
 use Rattle.packet.specs.Fields.{fieldsOf}
 use Rattle.packet.specs.Read.{readRefusal, said}
-use Rattle.reorder.specs.Offer.{opened, openSaid, openOf}
+use Rattle.reorder.specs.Offer.{opened, openRefusal, openSaid, openOf}
 use Rattle.reorder.proofs.Said.{stays, leaves, handed-on}
 use borrow.Author.Needs.{needs}
 use Rattle.reorder.proofs.open_or.Statement.{statement}
@@ -19,22 +19,22 @@ use Rattle.reorder.proofs.open_or.Tie as tie
 
 -- threshold and store are in order: the ladder goes on with the reader's number
 ready : (c : tie.Else3) (r : ℕ) → let k = c .before .before .before .before .before .args in
-    r ≡ readRefusal (now (k .packet)) (k .sum-word)
-    → r ≡ (refuse 20 unless within 1 31 (k .threshold) else refuse 27 unless eqb (length (now (k .store))) 34560 else readRefusal (now (k .packet)) (k .sum-word))
+    r ≡ readRefusal (now (k .packet)) (k .sum-word) → r ≡ openRefusal (length (now (k .store))) (now (k .packet)) (k .threshold) (k .sum-word)
+unfolding openRefusal
 ready c r e = pass-within 1 31 _ 20 _ r (c .before .before .if1 .left) (c .before .if2 .left) (pass-eq _ _ 27 _ r (c .if3 .left) e)
 
 returns : tie.Need-returns
-unfolding openSaid openOf
+unfolding openRefusal openSaid openOf
 returns c =
     stays _ _ _ _ 20 _ (say-refused {A = ℕ} 20 _ 0 (fail-below 1 31 _ 20 _ (c .if1 .taken)) (λ q. omega arith))
 
 returns-2 : tie.Need-returns-2
-unfolding openSaid openOf
+unfolding openRefusal openSaid openOf
 returns-2 c =
     stays _ _ _ _ 20 _ (say-refused {A = ℕ} 20 _ 0 (fail-above 1 31 _ 20 _ (c .before .if1 .left) (c .if2 .taken)) (λ q. omega arith))
 
 returns-3 : tie.Need-returns-3
-unfolding openSaid openOf
+unfolding openRefusal openSaid openOf
 returns-3 c =
     stays _ _ _ _ 27 _ (say-refused {A = ℕ} 27 _ 0 (pass-within 1 31 _ 20 _ 27 (c .before .before .if1 .left) (c .before .if2 .left) (fail-eq _ _ 27 _ (c .if3 .taken))) (λ q. omega arith))
 
@@ -51,7 +51,7 @@ refusal-number-requires : tie.Need-refusal-number-requires
 refusal-number-requires c κs = search needs
 
 returns-4 : tie.Need-returns-4
-unfolding openSaid openOf
+unfolding openRefusal openSaid openOf
 returns-4 c =
     let t = c .before .enum-told .given .1 in
     let a = c .before .before .before in
@@ -65,7 +65,7 @@ same-length : tie.Need-same-length
 same-length c = search needs
 
 returns-5 : tie.Need-returns-5
-unfolding openSaid openOf
+unfolding openRefusal openSaid openOf
 returns-5 c =
     let w = c .before .before in
     let t = w .before .before .before .answer .given .1 in
