@@ -4,8 +4,7 @@ use mathlib.Core.Path.{_≡_, sym, ap, _∙_}
 use mathlib.Core.Bool.{true, not}
 use native.Mathlib.Omega.{arith}
 use denote.Ref.{now}
-use lib.Dec.{eqb}
-use Rattle.octets.specs.Refusal.{refuse_unless_else_, numberSaid}
+use Rattle.octets.specs.Refusal.{numberSaid}
 use Rattle.octets.proofs.Ladder.{pass, fail, pass-eq, fail-eq, answer-said}
 use Rattle.packet.specs.declared.PacketAnswer.{PacketAnswer}
 use Rattle.packet.specs.Fields.{fieldsOf}

@@ -3,9 +3,8 @@ use Prim.Native.Nat.{ℕ}
 use mathlib.Core.Path.{_≡_, refl, sym, ap, _∙_}
 use native.Mathlib.Omega.{arith}
 use denote.Ref.{now}
-use lib.Dec.{eqb}
 use lib.ListN.{length}
-use Rattle.octets.specs.Refusal.{refuse_unless_else_, within, numberSaid}
+use Rattle.octets.specs.Refusal.{numberSaid}
 use Rattle.octets.proofs.Ladder.{pass-eq, fail-eq, pass-within, fail-below, fail-above, say-refused, say-answered, answer-said}
 use Rattle.packet.specs.declared.PacketAnswer.{PacketAnswer}
 use Rattle.packet.specs.declared.PacketFields.{PacketFields}
