@@ -68,7 +68,7 @@ module _ (s : Session) (store : List ℕ) (p : ℕ) (b : List ℕ) (h : Holds s 
   least = held-least (s .window) p (h .held)
 
   -- another packet is taken at another position, which has other bytes
-  beside : (c : List ℕ) (q : ℕ) → Taken s (length store) c q → Holds (withWindow s (holding (s .window) q)) (put store (slotStart q) c) p b
+  pub beside : (c : List ℕ) (q : ℕ) → Taken s (length store) c q → Holds (withWindow s (holding (s .window) q)) (put store (slotStart q) c) p b
   beside c q t =
       let n : p ≡ q → ⊥ = λ e. true≢false (sym (h .held) ∙ ap (heldAt (s .window)) e ∙ t .place .free) in
       let m : q % 32 ≡ p % 32 → ⊥ = λ e. omega (arith, n, least, held-most (s .window) p (h .held), t .place .least, t .place .near) in
@@ -84,7 +84,7 @@ module _ (s : Session) (store : List ℕ) (p : ℕ) (b : List ℕ) (h : Holds s 
       record { held = skipped-held (s .window) p e (omega (arith, least, n)) ∙ h .held; bytes = h .bytes }
 
   -- a turn keeps it, or gives it
-  turn-gives : Holds (turned s (turn s)) store p b ⊎ (turn s ≡ packet p)
+  pub turn-gives : Holds (turned s (turn s)) store p b ⊎ (turn s ≡ packet p)
   turn-gives = go (turn s) (shows s)
     where
       go : (t : Turn) → Shows s t → Holds (turned s t) store p b ⊎ (t ≡ packet p)

@@ -10,7 +10,7 @@ use borrow.Author.Tests.{leb-true, le-leb, lt-leb}
 use lib.Dec.{eqb, leb}
 use lib.Pow.{pow-mono}
 use Rattle.numbers.specs.Bit.{bit, clearBit}
-use Rattle.numbers.proofs.Bits.{bit-set-same, bit-set-other, bit-clear-same, bit-clear-other}
+use Rattle.numbers.proofs.Bits.{bit-pow-other, bit-set-same, bit-set-other, bit-clear-same, bit-clear-other}
 use Rattle.window.specs.declared.Window.{Window}
 use Rattle.window.specs.Window.{heldAt, someAmong, someHeld, holding, freed, skipped}
 use Rattle.window.proofs.Tests.{and-left, and-right, or-either, or-second, not-then-false}
@@ -105,6 +105,20 @@ module _ (w : Window) (p : ℕ) (lo : w .next ≤ p) (hi : p ≤ w .next + 31) w
           held-inside (holding w p) q (omega arith) (omega arith)
           ∙ ap (λ (k : ℕ). eqb k 1) (bit-set-other (w .marks) (p % 32) (q % 32) n)
           ∙ sym (held-inside w q (omega arith) (omega arith))
+
+-- a window from 0 with the one mark 0 holds position 0 alone
+pub first-held : (p : ℕ) → heldAt (record { next = 0; marks = 1 }) p ≡ true → p ≡ 0
+first-held p e = go (ℕ-discrete (p % 32) 0)
+  where
+    most : p ≤ 0 + 31
+    most = held-most (record { next = 0; marks = 1 }) p e
+
+    mark : eqb (bit 1 (p % 32)) 1 ≡ true
+    mark = sym (held-inside (record { next = 0; marks = 1 }) p (omega arith) most) ∙ e
+
+    go : Dec (p % 32 ≡ 0) → p ≡ 0
+    go (yes i) = omega (arith, most)
+    go (no n) = absurd (true≢false (sym mark ∙ ap (λ (k : ℕ). eqb k 1) (bit-pow-other 0 (p % 32) (λ i. n (sym i)))))
 
 -- ---- some position
 
