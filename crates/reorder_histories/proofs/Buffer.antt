@@ -1,0 +1,243 @@
+-- What every turn and every taken offer keeps true of one reorder buffer, from its opening on.
+use Prim.Native.Nat.{ℕ, _+_, _%_, _≤_, _<_}
+use mathlib.Core.Path.{_≡_, refl, sym, ap, _∙_, subst}
+use mathlib.Core.Bool.{true}
+use mathlib.Core.List.{
+  List,
+  [],
+  _∷_,
+  _++_,
+  append-assoc,
+  List·Memᴰ,
+  List·Memᴰ·head,
+  Memᴰ·append-left,
+  Memᴰ·append-right,
+  List·Memᴰ·append-cases,
+  List·Memᴰ·eq-of-singleton,
+  List·Memᴰ·not-nil,
+}
+use mathlib.Core.Logic.{_⊎_, inl, inr, ⊎-elim}
+use native.Mathlib.Decide.{decLt, ℕ-discrete}
+use native.Mathlib.Omega.{arith}
+use lib.ListN.{length}
+use Rattle.octets.specs.Bytes.{put}
+use Rattle.octets.proofs.Store.{put-length}
+use Rattle.packet.proofs.Accept.{accepted}
+use Rattle.window.specs.Window.{heldAt, holding}
+use Rattle.window.proofs.Held.{held-least, freed-held, skipped-held, holding-same, holding-other}
+use Rattle.reorder.specs.declared.Session.{Session}
+use Rattle.reorder.specs.Session.{withWindow, slotStart, slot}
+use Rattle.reorder.proofs.Whole.{Whole}
+use Rattle.reorder.proofs.Taken.{Taken}
+use Rattle.reorder_serve.specs.Turn.{Turn, packet, missing, waiting, turn, turned}
+use Rattle.reorder_serve.proofs.Turns.{Shows, shows-packet, shows-missing, shows-waiting, shows}
+use Rattle.reorder_laws.specs.Held.{Holds}
+use Rattle.reorder_laws.proofs.Kept.{whole-turned, whole-holding}
+use Rattle.reorder_laws.proofs.Pieces.{piece-same}
+use Rattle.reorder_laws.proofs.Bytes.{beside, turn-gives}
+use Rattle.reorder_histories.specs.Histories.{Event, took, gave, called-missing, State, Served, CalledMissing, StillHeld}
+use Rattle.reorder_histories.proofs.Between.{turnTold, turnedBy}
+
+-- ---- events
+
+pub gave≢took : (p q : ℕ) (b c : List ℕ) → gave p b ≡ took q c → ⊥
+gave≢took p q b c e = let z : _≡_ {A = ℕ} 0 1 = cc in omega arith
+
+pub missing≢took : (p q : ℕ) (c : List ℕ) → called-missing p ≡ took q c → ⊥
+missing≢took p q c e = let z : _≡_ {A = ℕ} 0 1 = cc in omega arith
+
+gave≢missing : (p q : ℕ) (b : List ℕ) → gave p b ≡ called-missing q → ⊥
+gave≢missing p q b e = let z : _≡_ {A = ℕ} 0 1 = cc in omega arith
+
+-- what a turn has given, or called missing
+pub told-gave : (store : List ℕ) (t : Turn) (p : ℕ) (b : List ℕ) → List·Memᴰ (gave p b) (turnTold store t) → (t ≡ packet p) × (slot store p ≡ b)
+told-gave store (packet q) p b m =
+    let e : gave p b ≡ gave q (slot store q) = List·Memᴰ·eq-of-singleton m in
+    let i : q ≡ p = cc in
+    let j : slot store q ≡ b = cc in
+    (ap packet i, ap (slot store) (sym i) ∙ j)
+told-gave store (missing q) p b m = absurd (gave≢missing p q b (List·Memᴰ·eq-of-singleton m))
+told-gave store waiting p b m = absurd (List·Memᴰ·not-nil m)
+
+pub told-missing : (store : List ℕ) (t : Turn) (p : ℕ) → List·Memᴰ (called-missing p) (turnTold store t) → t ≡ missing p
+told-missing store (packet q) p m = absurd (gave≢missing q p (slot store q) (sym (List·Memᴰ·eq-of-singleton m)))
+told-missing store (missing q) p m =
+    let e : called-missing p ≡ called-missing q = List·Memᴰ·eq-of-singleton m in
+    let i : q ≡ p = cc in
+    ap missing i
+told-missing store waiting p m = absurd (List·Memᴰ·not-nil m)
+
+-- what is still held stays so where it isn't given and its bytes stay
+still-held : (w v : State) (p : ℕ) (b : List ℕ) (told : List Event) → v .events ≡ w .events ++ told → ((c : List ℕ) → List·Memᴰ (gave p c) told → ⊥)
+    → slot (v .store) p ≡ b → StillHeld w p b → StillHeld v p b
+still-held w v p b told e n s h =
+    record {
+      earlier = h .earlier;
+      since = h .since ++ told;
+      taken = e ∙ ap (λ (l : List Event). l ++ told) (h .taken) ∙ append-assoc (h .earlier) (took p b ∷ h .since) told;
+      not-given = λ c m. ⊎-elim (h .not-given c) (n c) (List·Memᴰ·append-cases (h .since) m);
+      bytes = s;
+    }
+
+-- ---- one reorder buffer
+
+-- every position before next was served or called missing; only those were served; what is marked is still held
+pub record Buffer (w : State) : Type 0 where
+  pub sound : Whole (w .session)
+  pub size : length (w .store) ≡ 34560
+  pub settled : (p : ℕ) → p < w .session .window .next → ((b : List ℕ) × Served w p b) ⊎ CalledMissing w p
+  pub before-next : (p : ℕ) (b : List ℕ) → Served w p b → p < w .session .window .next
+  pub held : (p : ℕ) → heldAt (w .session .window) p ≡ true → StillHeld w p (slot (w .store) p)
+
+-- it has served p with these bytes, or holds them there
+abbrev pub Has : State → ℕ → List ℕ → Type 0
+Has w p b = Served w p b ⊎ Holds (w .session) (w .store) p b
+
+-- ---- a turn
+
+-- positions from the new next on are held as they were
+pub turned-held : (s : Session) (t : Turn) → Shows s t → (p : ℕ) → turned s t .window .next ≤ p → heldAt (turned s t .window) p ≡ heldAt (s .window) p
+turned-held s (packet n) (shows-packet e) p l = freed-held (s .window) p (omega arith)
+turned-held s (missing n) (shows-missing e q h k) p l = skipped-held (s .window) p e (omega arith)
+turned-held s waiting (shows-waiting e n) p l = refl
+
+pub turned-next : (s : Session) (t : Turn) → (s .window .next ≤ turned s t .window .next) × (turned s t .window .next ≤ s .window .next + 1)
+turned-next s (packet n) = (omega arith, omega arith)
+turned-next s (missing n) = (omega arith, omega arith)
+turned-next s waiting = (omega arith, omega arith)
+
+-- what a turn gives was next, and isn't any more
+gives-next : (s : Session) (t : Turn) → Shows s t → (p : ℕ) → t ≡ packet p → p < turned s t .window .next
+gives-next s (packet n) (shows-packet e) p i = let j : s .window .next ≡ p = cc in omega arith
+gives-next s (missing n) (shows-missing e q h k) p i = let z : _≡_ {A = ℕ} 0 1 = cc in absurd (omega arith)
+gives-next s waiting (shows-waiting e n) p i = let z : _≡_ {A = ℕ} 0 1 = cc in absurd (omega arith)
+
+-- a turn serves next, calls it missing, or leaves it
+settles : (w : State) (t : Turn) → Shows (w .session) t → (p : ℕ) → p ≡ w .session .window .next → p < turned (w .session) t .window .next
+    → ((b : List ℕ) × Served (turnedBy w t) p b) ⊎ CalledMissing (turnedBy w t) p
+settles w (packet n) (shows-packet e) p i l =
+    inl (slot (w .store) p, Memᴰ·append-right (w .events) (List·Memᴰ·head (ap (λ (q : ℕ). gave q (slot (w .store) q)) i)))
+settles w (missing n) (shows-missing e q h k) p i l = inr (Memᴰ·append-right (w .events) (List·Memᴰ·head (ap called-missing i)))
+settles w waiting (shows-waiting e n) p i l = absurd (omega arith)
+
+module _ (w : State) (bf : Buffer w) where
+  pub buffer-turned : Buffer (turnedBy w (turn (w .session)))
+  buffer-turned =
+      record {
+        sound = whole-turned (w .session) (bf .sound);
+        size = bf .size;
+        settled = λ p l. settled p l (decLt p (w .session .window .next));
+        before-next = λ p b m. before-next p b (List·Memᴰ·append-cases (w .events) m);
+        held = λ p h.
+            let l : turned (w .session) (turn (w .session)) .window .next ≤ p = held-least (turned (w .session) (turn (w .session)) .window) p h in
+            still-held w (turnedBy w (turn (w .session))) p (slot (w .store) p) (turnTold (w .store) (turn (w .session))) refl
+            (λ c m.
+            let g = told-gave (w .store) (turn (w .session)) p c m in
+            omega (arith, gives-next (w .session) (turn (w .session)) (shows (w .session)) p (g .0)))
+            refl
+            (bf .held p (sym (turned-held (w .session) (turn (w .session)) (shows (w .session)) p l) ∙ h));
+      }
+    where
+      lift : (p : ℕ) → ((b : List ℕ) × Served w p b) ⊎ CalledMissing w p
+          → ((b : List ℕ) × Served (turnedBy w (turn (w .session))) p b) ⊎ CalledMissing (turnedBy w (turn (w .session))) p
+      lift p (inl m) = inl (m .0, Memᴰ·append-left (turnTold (w .store) (turn (w .session))) (m .1))
+      lift p (inr m) = inr (Memᴰ·append-left (turnTold (w .store) (turn (w .session))) m)
+
+      settled : (p : ℕ) → p < turned (w .session) (turn (w .session)) .window .next → Dec (p < w .session .window .next)
+          → ((b : List ℕ) × Served (turnedBy w (turn (w .session))) p b) ⊎ CalledMissing (turnedBy w (turn (w .session))) p
+      settled p l (yes k) = lift p (bf .settled p k)
+      settled p l (no k) =
+          settles w (turn (w .session)) (shows (w .session)) p (omega (arith, turned-next (w .session) (turn (w .session)) .1)) l
+
+      before-next : (p : ℕ) (b : List ℕ) → List·Memᴰ (gave p b) (w .events) ⊎ List·Memᴰ (gave p b) (turnTold (w .store) (turn (w .session)))
+          → p < turned (w .session) (turn (w .session)) .window .next
+      before-next p b (inl m) = omega (arith, bf .before-next p b m, turned-next (w .session) (turn (w .session)) .0)
+      before-next p b (inr m) =
+          gives-next (w .session) (turn (w .session)) (shows (w .session)) p (told-gave (w .store) (turn (w .session)) p b m .0)
+
+  pub has-turned : (p : ℕ) (b : List ℕ) → Has w p b → Has (turnedBy w (turn (w .session))) p b
+  has-turned p b (inl m) = inl (Memᴰ·append-left (turnTold (w .store) (turn (w .session))) m)
+  has-turned p b (inr h) = go (turn-gives (w .session) (w .store) p b h)
+    where
+      given : (u : Turn) → u ≡ packet p → List·Memᴰ (gave p b) (turnTold (w .store) u)
+      given u e =
+          subst (λ (v : Turn). List·Memᴰ (gave p b) (turnTold (w .store) v)) (sym e) (List·Memᴰ·head (ap (gave p) (sym (h .bytes))))
+
+      go : Holds (turned (w .session) (turn (w .session))) (w .store) p b ⊎ (turn (w .session) ≡ packet p) → Has (turnedBy w (turn (w .session))) p b
+      go (inl k) = inr k
+      go (inr e) = inl (Memᴰ·append-right (w .events) (given (turn (w .session)) e))
+
+-- ---- a taken offer
+
+-- the state after an offer of b is answered with p
+abbrev pub takes : State → ℕ → List ℕ → State
+takes w p b =
+    record {
+      session = withWindow (w .session) (holding (w .session .window) p);
+      store = put (w .store) (slotStart p) b;
+      events = w .events ++ took p b ∷ [];
+    }
+
+abbrev pub Takes : State → ℕ → List ℕ → Type 0
+Takes w p b = Taken (w .session) (length (w .store)) b p
+
+module _ (w : State) (p : ℕ) (b : List ℕ) (tk : Takes w p b) where
+  pub took-other : (q : ℕ) → (q ≡ p → ⊥) → heldAt (takes w p b .session .window) q ≡ heldAt (w .session .window) q
+  took-other q n = holding-other (w .session .window) p (tk .place .least) (tk .place .near) q n
+
+  pub took-same : heldAt (takes w p b .session .window) p ≡ true
+  took-same = holding-same (w .session .window) p (tk .place .least) (tk .place .near)
+
+  -- its bytes are stored, and the bytes of what was held stay
+  pub took-bytes : slot (takes w p b .store) p ≡ b
+  took-bytes = piece-same (w .store) b (p % 32) (accepted b (w .session .«sum_word») (tk .read) .size) (omega (arith, tk .store))
+
+  pub slot-stays : (q : ℕ) → heldAt (w .session .window) q ≡ true → slot (takes w p b .store) q ≡ slot (w .store) q
+  slot-stays q h = beside (w .session) (w .store) q (slot (w .store) q) (record { held = h; bytes = refl }) b p tk .bytes
+
+  -- it tells of nothing else
+  pub took-gave : (q : ℕ) (c : List ℕ) → Served (takes w p b) q c → Served w q c
+  took-gave q c m =
+      ⊎-elim (λ (k : Served w q c). k) (λ (k : List·Memᴰ (gave q c) (took p b ∷ [])). absurd (gave≢took q p c b (List·Memᴰ·eq-of-singleton k)))
+      (List·Memᴰ·append-cases (w .events) m)
+
+  pub took-missing : (q : ℕ) → CalledMissing (takes w p b) q → CalledMissing w q
+  took-missing q m =
+      ⊎-elim (λ (k : CalledMissing w q). k)
+      (λ (k : List·Memᴰ (called-missing q) (took p b ∷ [])). absurd (missing≢took q p b (List·Memᴰ·eq-of-singleton k)))
+      (List·Memᴰ·append-cases (w .events) m)
+
+  pub has-taken : (q : ℕ) (c : List ℕ) → Has w q c → Has (takes w p b) q c
+  has-taken q c (inl m) = inl (Memᴰ·append-left (took p b ∷ []) m)
+  has-taken q c (inr h) = inr (beside (w .session) (w .store) q c h b p tk)
+
+  pub buffer-taken : Buffer w → Buffer (takes w p b)
+  buffer-taken bf =
+      record {
+        sound = whole-holding (w .session) (bf .sound) p (tk .place .least) (tk .place .near) (tk .place .most);
+        size = put-length (w .store) (slotStart p) b ∙ bf .size;
+        settled = λ q l. lift q (bf .settled q l);
+        before-next = λ q c m. bf .before-next q c (took-gave q c m);
+        held = λ q h. held q h (ℕ-discrete q p);
+      }
+    where
+      lift : (q : ℕ) → ((c : List ℕ) × Served w q c) ⊎ CalledMissing w q → ((c : List ℕ) × Served (takes w p b) q c) ⊎ CalledMissing (takes w p b) q
+      lift q (inl m) = inl (m .0, Memᴰ·append-left (took p b ∷ []) (m .1))
+      lift q (inr m) = inr (Memᴰ·append-left (took p b ∷ []) m)
+
+      new : StillHeld (takes w p b) p (slot (takes w p b .store) p)
+      new = record {
+        earlier = w .events;
+        since = [];
+        taken = ap (λ (c : List ℕ). w .events ++ took p c ∷ []) (sym took-bytes);
+        not-given = λ c m. List·Memᴰ·not-nil m;
+        bytes = refl;
+      }
+
+      held : (q : ℕ) → heldAt (takes w p b .session .window) q ≡ true → Dec (q ≡ p) → StillHeld (takes w p b) q (slot (takes w p b .store) q)
+      held q h (yes i) = subst (λ (k : ℕ). StillHeld (takes w p b) k (slot (takes w p b .store) k)) (sym i) new
+      held q h (no n) =
+          let old : heldAt (w .session .window) q ≡ true = sym (took-other q n) ∙ h in
+          let same = slot-stays q old in
+          subst (StillHeld (takes w p b) q) (sym same)
+          (still-held w (takes w p b) q (slot (w .store) q) (took p b ∷ []) refl (λ c m. gave≢took q p c b (List·Memᴰ·eq-of-singleton m)) same (bf .held q old))

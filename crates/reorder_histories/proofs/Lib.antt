@@ -1,0 +1,5 @@
+pub mod Between
+pub mod Buffer
+pub mod Link
+pub mod Offers
+pub mod Theorem
