@@ -1,0 +1,17 @@
+-- What the pass promises, put together.
+use mathlib.Core.Path.{refl, ap}
+use Rattle.reorder_histories.specs.Histories.{passTells, step}
+use Rattle.reorder_histories.proofs.Made.{stands}
+use borrow.Author.Needs.{needs}
+use Rattle.reorder_histories.proofs.pass_step.Statement.{statement}
+use Rattle.reorder_histories.proofs.pass_step.Tie as tie
+
+pass-requires : tie.Need-pass-requires
+pass-requires c κs = search needs
+
+returns : tie.Need-returns
+unfolding step
+returns c = λ store. stands (c .pass .ensures .1) refl (ap passTells (c .pass .ensures .0))
+
+pub pass-step-spec : {M : Type 1} → statement M
+pass-step-spec = tie.close (tie.spec pass-requires returns)

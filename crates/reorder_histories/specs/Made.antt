@@ -1,0 +1,54 @@
+-- The same for code: what each of the calls answers and leaves is a step of a list of calls, so a history of calls is a run.
+use Prim.Native.Nat.{ℕ}
+use mathlib.Core.Path.{_≡_}
+use mathlib.Core.Bool.{cond}
+use mathlib.Core.List.{List, [], _∷_, _++_, map}
+use lib.Dec.{eqb}
+use lib.ListN.{take}
+use Rattle.octets.specs.Refusal.{Said, refused, answered}
+use Rattle.reorder.specs.declared.Session.{Session}
+use Rattle.reorder.specs.Outcome.{Outcome}
+use Rattle.reorder_serve.specs.Turn.{Turn, packet, missing, waiting}
+use Rattle.reorder_serve.specs.Serve.{drainSaid}
+use Rattle.reorder_serve.specs.declared.Description.{Description}
+use Rattle.reorder_serve.specs.declared.Report.{Report}
+use Rattle.reorder_histories.specs.Histories.{Call, pass, Event, State, start, step, run, Consumer, atStart, OpenedAlike, NothingLost}
+
+-- ---- what a drain reports, as answers
+
+abbrev pub describedBy : Description → Turn
+describedBy d = cond (eqb (d .kind) 1) (packet (d .position)) (cond (eqb (d .kind) 2) (missing (d .position)) waiting)
+
+-- the first n descriptions
+abbrev pub firstOf : List Description → Said ℕ → Said (List Turn)
+firstOf ds (refused n) = refused n
+firstOf ds (answered n) = answered (map describedBy (take n ds))
+
+abbrev pub reported : Report → Said (List Turn)
+reported r = firstOf (r .descriptions) (drainSaid (r .answer))
+
+-- ---- a history
+
+-- an opening of the packet b that leaves t and c, and whose answer tells these events, is the start of one: o is what the opening comes to
+abbrev pub IsStart : Outcome ℕ → List ℕ → Session → List ℕ → List Event → Type 0
+IsStart o b t c told = (record { session = t; store = c; events = told }) ≡ start o b
+
+-- a call from the session s and the store b that leaves t and c, and whose answer tells these events, is the step of the call x
+abbrev pub IsStep : Session → List ℕ → Call → Session → List ℕ → List Event → Type 0
+IsStep s b x t c told =
+    (events : List Event) → (record { session = t; store = c; events = events ++ told }) ≡ step (record { session = s; store = b; events = events }) x
+
+-- a pass is lent no store: any stays as it was
+abbrev pub IsPassStep : Session → Session → List Event → Type 0
+IsPassStep s t told = (b : List ℕ) → IsStep s b pass t b told
+
+-- each call of the list is a step from what the last one left
+unfoldable pub Made : State → List Call → State → Type 0
+Made w [] u = u ≡ w
+Made w (c ∷ cs) u = (v : State) × (v ≡ step w c) × Made v cs u
+
+-- demand 3 for the states that two histories of calls have come to
+pub record HistoriesLoseNothing : Type 0 where
+  pub are-runs : (w u : State) (cs : List Call) → Made w cs u → u ≡ run w cs
+  pub lose-nothing : (less more : Consumer) (b : List ℕ) (w : ℕ) (u v : State) → OpenedAlike less more b w
+      → Made (atStart less b w) (less .calls) u → Made (atStart more b w) (more .calls) v → NothingLost u v
