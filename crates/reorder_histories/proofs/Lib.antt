@@ -3,4 +3,3 @@ pub mod Buffer
 pub mod Link
 pub mod Offers
 pub mod Theorem
-pub mod Made

@@ -1,2 +1,1 @@
 pub mod Histories
-pub mod Made

@@ -1,56 +1,7 @@
-// Whole lists of calls: demand 3, and how the calls of the reorder buffer make such lists (document 01, "The lists of demand 3").
-use reorder::Offered;
-use reorder::Session;
-use reorder_serve::Drained;
-use reorder_serve::Passed;
-use reorder_serve::Served;
-ghost use Rattle.reorder.specs.Offer.{said, openOf, noSession};
-ghost use Rattle.reorder_serve.specs.Serve.{serveSaid, passSaid};
-ghost use Rattle.reorder_histories.specs.Histories.{offer, serve, drain, offerTells, serveTells, drainTells, passTells, HigherThresholdLosesNothing};
-ghost use Rattle.reorder_histories.specs.Made.{reported, IsStart, IsStep, IsPassStep, HistoriesLoseNothing};
+// Whole lists of calls (document 01, "The lists of demand 3").
+ghost use Rattle.reorder_histories.specs.Histories.{HigherThresholdLosesNothing};
 
 // Demand 3: a consumer with a higher threshold (document 01's patience) never loses what one with a lower threshold got.
 pub fn higher_threshold_loses_nothing()
     ensures { λ _. ⌜ HigherThresholdLosesNothing ⌝ }
 {}
-
-// The same for what two histories of the calls below have come to.
-pub fn histories_lose_nothing()
-    ensures { λ _. ⌜ HistoriesLoseNothing ⌝ }
-{}
-
-// An opening is the start of a history.
-pub fn open_start(store: &mut [u8], packet: &[u8], threshold: u32, sum_word: u16) -> Offered
-    ensures { λ r. ⌜ IsStart (openOf noSession (now (store .entry)) (now (packet .entry)) threshold «sum_word») (now (packet .entry))
-        (r .session) (now (store .exit)) (offerTells (said (r .answer)) (now (packet .entry))) ⌝ }
-{
-    reorder::open(store, packet, threshold, sum_word)
-}
-
-// An offer is a step of one, and so is each other call.
-pub fn offer_step(session: Session, store: &mut [u8], packet: &[u8]) -> Offered
-    ensures { λ r. ⌜ IsStep session (now (store .entry)) (offer (now (packet .entry)))
-        (r .session) (now (store .exit)) (offerTells (said (r .answer)) (now (packet .entry))) ⌝ }
-{
-    reorder::offer(session, store, packet)
-}
-
-pub fn serve_step(session: Session, out: &mut [u8], store: &[u8]) -> Served
-    ensures { λ r. ⌜ IsStep session (now (store .entry)) (serve (now (out .entry)))
-        (r .session) (now (store .entry)) (serveTells (serveSaid (r .answer)) (now (out .exit))) ⌝ }
-{
-    reorder_serve::serve(session, out, store)
-}
-
-pub fn drain_step(session: Session, out: &mut [u8], store: &[u8], budget: u32) -> Drained
-    ensures { λ r. ⌜ IsStep session (now (store .entry)) (drain (now (out .entry)) budget)
-        (r .session) (now (store .entry)) (drainTells (reported (r .answer)) (now (out .exit))) ⌝ }
-{
-    reorder_serve::drain(session, out, store, budget)
-}
-
-pub fn pass_step(session: Session) -> Passed
-    ensures { λ r. ⌜ IsPassStep session (r .session) (passTells (passSaid (r .answer))) ⌝ }
-{
-    reorder_serve::pass(session)
-}

@@ -46,6 +46,10 @@ IsPassStep s t told = (b : List ℕ) → IsStep s b pass t b told
 unfoldable pub Made : State → List Call → State → Type 0
 Made w [] u = u ≡ w
 Made w (c ∷ cs) u = (v : State) × (v ≡ step w c) × Made v cs u
+
+-- a history from w has come to this session and this store
+abbrev pub ComesTo : State → List Call → Session → List ℕ → Type 0
+ComesTo w cs t c = (events : List Event) × Made w cs (record { session = t; store = c; events = events })
 
 -- demand 3 for the states that two histories of calls have come to
 pub record HistoriesLoseNothing : Type 0 where

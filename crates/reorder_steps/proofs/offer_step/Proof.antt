@@ -1,10 +1,10 @@
 -- What the offer promises, put together.
 use denote.Ref.{now}
 use Rattle.reorder_histories.specs.Histories.{offerTells, step}
-use Rattle.reorder_histories.proofs.Made.{stands}
+use Rattle.reorder_steps.proofs.Steps.{stands}
 use borrow.Author.Needs.{needs}
-use Rattle.reorder_histories.proofs.offer_step.Statement.{statement}
-use Rattle.reorder_histories.proofs.offer_step.Tie as tie
+use Rattle.reorder_steps.proofs.offer_step.Statement.{statement}
+use Rattle.reorder_steps.proofs.offer_step.Tie as tie
 
 offer-requires : tie.Need-offer-requires
 offer-requires c κs = search needs

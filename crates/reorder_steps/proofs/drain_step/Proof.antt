@@ -2,11 +2,11 @@
 use mathlib.Core.Path.{refl}
 use denote.Ref.{now}
 use Rattle.reorder_serve.specs.Serve.{drainOf}
 use Rattle.reorder_histories.specs.Histories.{drainTells, step}
-use Rattle.reorder_histories.proofs.Made.{stands, reads-back}
+use Rattle.reorder_steps.proofs.Steps.{stands, reads-back}
 use borrow.Author.Needs.{needs}
-use Rattle.reorder_histories.proofs.drain_step.Statement.{statement}
-use Rattle.reorder_histories.proofs.drain_step.Tie as tie
+use Rattle.reorder_steps.proofs.drain_step.Statement.{statement}
+use Rattle.reorder_steps.proofs.drain_step.Tie as tie
 
 drain-requires : tie.Need-drain-requires
 drain-requires c κs = search needs

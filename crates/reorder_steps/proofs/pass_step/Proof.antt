@@ -1,10 +1,10 @@
 -- What the pass promises, put together.
 use mathlib.Core.Path.{refl, ap}
 use Rattle.reorder_histories.specs.Histories.{passTells, step}
-use Rattle.reorder_histories.proofs.Made.{stands}
+use Rattle.reorder_steps.proofs.Steps.{stands}
 use borrow.Author.Needs.{needs}
-use Rattle.reorder_histories.proofs.pass_step.Statement.{statement}
-use Rattle.reorder_histories.proofs.pass_step.Tie as tie
+use Rattle.reorder_steps.proofs.pass_step.Statement.{statement}
+use Rattle.reorder_steps.proofs.pass_step.Tie as tie
 
 pass-requires : tie.Need-pass-requires
 pass-requires c κs = search needs

@@ -1,10 +1,10 @@
 -- What the serve promises, put together: a serve leaves the store.
 use mathlib.Core.Path.{refl}
 use Rattle.reorder_histories.specs.Histories.{serveTells, step}
-use Rattle.reorder_histories.proofs.Made.{stands}
+use Rattle.reorder_steps.proofs.Steps.{stands}
 use borrow.Author.Needs.{needs}
-use Rattle.reorder_histories.proofs.serve_step.Statement.{statement}
-use Rattle.reorder_histories.proofs.serve_step.Tie as tie
+use Rattle.reorder_steps.proofs.serve_step.Statement.{statement}
+use Rattle.reorder_steps.proofs.serve_step.Tie as tie
 
 serve-requires : tie.Need-serve-requires
 serve-requires c κs = search needs

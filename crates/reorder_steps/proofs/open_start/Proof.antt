@@ -1,11 +1,11 @@
 -- What the opening promises, put together: there are no events before it.
 use mathlib.Core.List.{[]}
 use denote.Ref.{now}
 use Rattle.reorder_histories.specs.Histories.{offerTells}
-use Rattle.reorder_histories.proofs.Made.{stands}
+use Rattle.reorder_steps.proofs.Steps.{stands}
 use borrow.Author.Needs.{needs}
-use Rattle.reorder_histories.proofs.open_start.Statement.{statement}
-use Rattle.reorder_histories.proofs.open_start.Tie as tie
+use Rattle.reorder_steps.proofs.open_start.Statement.{statement}
+use Rattle.reorder_steps.proofs.open_start.Tie as tie
 
 open-requires : tie.Need-open-requires
 open-requires c κs = search needs

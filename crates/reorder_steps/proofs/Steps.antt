@@ -9,8 +9,8 @@ use Rattle.reorder_serve.specs.Turn.{Turn, packet, missing, waiting, described,
 use Rattle.reorder_serve.specs.Serve.{drainSaid, counted, descriptions}
 use Rattle.reorder_serve.specs.declared.Description.{Description}
 use Rattle.reorder_serve.specs.declared.Report.{Report}
-use Rattle.reorder_histories.specs.Histories.{Call, Event, State, run, HigherThresholdLosesNothing}
-use Rattle.reorder_histories.specs.Made.{describedBy, firstOf, reported, Made, HistoriesLoseNothing}
+use Rattle.reorder_histories.specs.Histories.{Call, Event, State, step, run, HigherThresholdLosesNothing}
+use Rattle.reorder_steps.specs.Steps.{describedBy, firstOf, reported, Made, HistoriesLoseNothing}
 
 -- ---- one call
 
@@ -39,6 +39,10 @@ pub reads-back : (r : Report) (x : Said (List Turn)) → drainSaid (r .answer) �
 reads-back r x e f = (λ i. firstOf (f i) (e i)) ∙ read-answers x
 
 -- ---- a history
+
+-- a step from the state that the history has come to
+pub next-step : {w u v : State} (c : Call) → u ≡ w → v ≡ step u c → v ≡ step w c
+next-step c e f = f ∙ ap (λ (x : State). step x c) e
 
 pub made-runs : (w u : State) (cs : List Call) → Made w cs u → u ≡ run w cs
 unfolding Made run
