@@ -27,6 +27,11 @@ module _ {A : Type 0} (s : Session) (b : List ℕ) (f : A → Session) (g : A �
     (p ∙ ap (λ (y : Said A). outcome y s b f g .session) e, q ∙ ap (λ (y : Said A). outcome y s b f g .bytes) e),
   )
 
+-- what is said is said
+pub said-is : {A : Type 0} (x : Said A) (s : Session) (b : List ℕ) (f : A → Session) (g : A → List ℕ) → outcome x s b f g .said ≡ x
+said-is (refused n) s b f g = refl
+said-is (answered a) s b f g = refl
+
 -- what holds of a call's outcome, by what it says
 pub outcome-cases : {A : Type 0} (P : Session → List ℕ → Type 0) (x : Said A) (s : Session) (b : List ℕ) (f : A → Session) (g : A → List ℕ)
     → P s b → ((a : A) → x ≡ answered a → P (f a) (g a)) → P (outcome x s b f g .session) (outcome x s b f g .bytes)

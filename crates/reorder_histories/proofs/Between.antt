@@ -22,14 +22,15 @@ use Rattle.reorder_histories.specs.Histories.{Call, offer, serve, drain,
 
 -- ---- turns
 
--- what a turn tells: a packet's bytes are those in the store
-abbrev pub turnTold : List ℕ → Turn → List Event
-turnTold store (packet p) = gave p (slot store p) ∷ []
-turnTold store (missing p) = called-missing p ∷ []
-turnTold store waiting = []
+-- what a turn tells, by the bytes of each position
+abbrev pub turnTold : (ℕ → List ℕ) → Turn → List Event
+turnTold bytes (packet p) = gave p (bytes p) ∷ []
+turnTold bytes (missing p) = called-missing p ∷ []
+turnTold bytes waiting = []
 
+-- a turn's bytes are those in the store
 abbrev pub turnedBy : State → Turn → State
-turnedBy w t = record { session = turned (w .session) t; store = w .store; events = w .events ++ turnTold (w .store) t }
+turnedBy w t = record { session = turned (w .session) t; store = w .store; events = w .events ++ turnTold (slot (w .store)) t }
 
 unfoldable pub afterTurn : State → State
 afterTurn w = turnedBy w (turn (w .session))
@@ -67,7 +68,7 @@ serve-turns w out = go (say n (turn s)) refl
     n : ℕ
     n = serveRefusal s (length (w .store)) (length out)
 
-    tells-it : ServeReady (w .session) (length (w .store)) (length out) → (t : Turn) → turnsTell 0 (t ∷ []) (shown 0 (w .store) out t) ≡ turnTold (w .store) t
+    tells-it : ServeReady (w .session) (length (w .store)) (length out) → (t : Turn) → turnsTell 0 (t ∷ []) (shown 0 (w .store) out t) ≡ turnTold (slot (w .store)) t
     tells-it r (packet p) =
         ap (λ (b : List ℕ). gave p b ∷ []) (piece-same out (slot (w .store) p) 0 (slot-length (w .store) p (r .store)) (omega (arith, r .out)))
     tells-it r (missing p) = refl
@@ -89,25 +90,25 @@ serve-turns w out = go (say n (turn s)) refl
 
 -- ---- a drain
 
-unfoldable turnsTold : List ℕ → List Turn → List Event
-turnsTold store [] = []
-turnsTold store (t ∷ ts) = turnTold store t ++ turnsTold store ts
+abbrev pub turnsTold : (ℕ → List ℕ) → List Turn → List Event
+turnsTold bytes [] = []
+turnsTold bytes (t ∷ ts) = turnTold bytes t ++ turnsTold bytes ts
 
 -- where the output has each packet's bytes at its number
-told-all : (store out : List ℕ) (ts : List Turn) (k : ℕ) → ((i p : ℕ) → answerAt ts i ≡ packet p → piece out (k + i) ≡ slot store p)
-    → turnsTell k ts out ≡ turnsTold store ts
-unfolding turnsTell turnsTold
-told-all store out [] k h = refl
-told-all store out (t ∷ ts) k h = go t (λ p e. first p e) (told-all store out ts (suc k) later)
+pub told-all : (bytes : ℕ → List ℕ) (out : List ℕ) (ts : List Turn) (k : ℕ) → ((i p : ℕ) → answerAt ts i ≡ packet p → piece out (k + i) ≡ bytes p)
+    → turnsTell k ts out ≡ turnsTold bytes ts
+unfolding turnsTell
+told-all bytes out [] k h = refl
+told-all bytes out (t ∷ ts) k h = go t (λ p e. first p e) (told-all bytes out ts (suc k) later)
   where
-    first : (p : ℕ) → t ≡ packet p → piece out k ≡ slot store p
+    first : (p : ℕ) → t ≡ packet p → piece out k ≡ bytes p
     first p e = let z : k ≡ k + 0 = omega arith in ap (piece out) z ∙ h 0 p e
 
-    later : (i p : ℕ) → answerAt ts i ≡ packet p → piece out (suc k + i) ≡ slot store p
+    later : (i p : ℕ) → answerAt ts i ≡ packet p → piece out (suc k + i) ≡ bytes p
     later i p e = let z : suc k + i ≡ k + suc i = omega arith in ap (piece out) z ∙ h (suc i) p e
 
-    go : (u : Turn) → ((p : ℕ) → u ≡ packet p → piece out k ≡ slot store p) → turnsTell (suc k) ts out ≡ turnsTold store ts
-        → turnsTell k (u ∷ ts) out ≡ turnTold store u ++ turnsTold store ts
+    go : (u : Turn) → ((p : ℕ) → u ≡ packet p → piece out k ≡ bytes p) → turnsTell (suc k) ts out ≡ turnsTold bytes ts
+        → turnsTell k (u ∷ ts) out ≡ turnTold bytes u ++ turnsTold bytes ts
     go (packet p) f r = λ i. gave p (f p refl i) ∷ r i
     go (missing p) f r = ap (λ (l : List Event). called-missing p ∷ l) r
     go waiting f r = r
@@ -116,9 +117,9 @@ all-turns : (n : ℕ) (w : State)
     → ByTurns w (record {
       session = turnedAll (w .session) (turns n (w .session));
       store = w .store;
-      events = w .events ++ turnsTold (w .store) (turns n (w .session));
+      events = w .events ++ turnsTold (slot (w .store)) (turns n (w .session));
     })
-unfolding turns turnedAll turnsTold afterTurn afterTurns
+unfolding turns turnedAll afterTurn afterTurns
 all-turns zero w = no-turn w
 all-turns (suc n) w = go (turns-split n s) (all-turns n (afterTurn w))
   where
@@ -126,13 +127,13 @@ all-turns (suc n) w = go (turns-split n s) (all-turns n (afterTurn w))
     s = w .session
 
     after : List Turn → State
-    after ts = record { session = turnedAll s ts; store = w .store; events = w .events ++ turnsTold (w .store) ts }
+    after ts = record { session = turnedAll s ts; store = w .store; events = w .events ++ turnsTold (slot (w .store)) ts }
 
     rest : State
     rest = record {
       session = turnedAll (turned s (turn s)) (turns n (turned s (turn s)));
       store = w .store;
-      events = (w .events ++ turnTold (w .store) (turn s)) ++ turnsTold (w .store) (turns n (turned s (turn s)));
+      events = (w .events ++ turnTold (slot (w .store)) (turn s)) ++ turnsTold (slot (w .store)) (turns n (turned s (turn s)));
     }
 
     go : ((turn s ≡ waiting) × (turns (suc n) s ≡ [])) ⊎ (turns (suc n) s ≡ turn s ∷ turns n (turned s (turn s))) → ByTurns (afterTurn w) rest
@@ -144,7 +145,7 @@ all-turns (suc n) w = go (turns-split n s) (all-turns n (afterTurn w))
           ∙ (λ i. record {
             session = turnedAll (turned s (turn s)) (turns n (turned s (turn s)));
             store = w .store;
-            events = sym (append-assoc (w .events) (turnTold (w .store) (turn s)) (turnsTold (w .store) (turns n (turned s (turn s))))) i;
+            events = sym (append-assoc (w .events) (turnTold (slot (w .store)) (turn s)) (turnsTold (slot (w .store)) (turns n (turned s (turn s))))) i;
           })
           ∙ r .1,
     )
@@ -165,9 +166,9 @@ drain-turns w out budget = go (say n (turns budget s)) refl
         record { session = o .session; store = w .store; events = w .events ++ drainTells (o .said) (o .bytes) }
 
     tells-them : DrainReady (w .session) (length (w .store)) (length out) budget → (ts : List Turn) → length ts ≤ budget
-        → turnsTell 0 ts (shownAll 0 (w .store) out ts) ≡ turnsTold (w .store) ts
+        → turnsTell 0 ts (shownAll 0 (w .store) out ts) ≡ turnsTold (slot (w .store)) ts
     tells-them r ts l =
-        told-all (w .store) (shownAll 0 (w .store) out ts) ts 0
+        told-all (slot (w .store)) (shownAll 0 (w .store) out ts) ts 0
         (λ i p e. shown-packet (w .store) (r .store) ts 0 i p out (omega (arith, r .out, r .most)) e)
 
     go : (x : Said (List Turn)) → say n (turns budget s) ≡ x → ByTurns w (after x)
@@ -179,7 +180,7 @@ drain-turns w out budget = go (say n (turns budget s)) refl
         let q = all-turns budget w in (
           q .0,
           (λ i. record { session = turnedAll s ts; store = w .store; events = w .events ++ tells-them r ts l i })
-              ∙ ap (λ (us : List Turn). record { session = turnedAll s us; store = w .store; events = w .events ++ turnsTold (w .store) us }) (a .1)
+              ∙ ap (λ (us : List Turn). record { session = turnedAll s us; store = w .store; events = w .events ++ turnsTold (slot (w .store)) us }) (a .1)
               ∙ q .1,
         )
 

@@ -50,22 +50,22 @@ gave≢missing : (p q : ℕ) (b : List ℕ) → gave p b ≡ called-missing q �
 gave≢missing p q b e = let z : _≡_ {A = ℕ} 0 1 = cc in omega arith
 
 -- what a turn has given, or called missing
-pub told-gave : (store : List ℕ) (t : Turn) (p : ℕ) (b : List ℕ) → List·Memᴰ (gave p b) (turnTold store t) → (t ≡ packet p) × (slot store p ≡ b)
-told-gave store (packet q) p b m =
-    let e : gave p b ≡ gave q (slot store q) = List·Memᴰ·eq-of-singleton m in
+pub told-gave : (bytes : ℕ → List ℕ) (t : Turn) (p : ℕ) (b : List ℕ) → List·Memᴰ (gave p b) (turnTold bytes t) → (t ≡ packet p) × (bytes p ≡ b)
+told-gave bytes (packet q) p b m =
+    let e : gave p b ≡ gave q (bytes q) = List·Memᴰ·eq-of-singleton m in
     let i : q ≡ p = cc in
-    let j : slot store q ≡ b = cc in
-    (ap packet i, ap (slot store) (sym i) ∙ j)
-told-gave store (missing q) p b m = absurd (gave≢missing p q b (List·Memᴰ·eq-of-singleton m))
-told-gave store waiting p b m = absurd (List·Memᴰ·not-nil m)
+    let j : bytes q ≡ b = cc in
+    (ap packet i, ap bytes (sym i) ∙ j)
+told-gave bytes (missing q) p b m = absurd (gave≢missing p q b (List·Memᴰ·eq-of-singleton m))
+told-gave bytes waiting p b m = absurd (List·Memᴰ·not-nil m)
 
-pub told-missing : (store : List ℕ) (t : Turn) (p : ℕ) → List·Memᴰ (called-missing p) (turnTold store t) → t ≡ missing p
-told-missing store (packet q) p m = absurd (gave≢missing q p (slot store q) (sym (List·Memᴰ·eq-of-singleton m)))
-told-missing store (missing q) p m =
+pub told-missing : (bytes : ℕ → List ℕ) (t : Turn) (p : ℕ) → List·Memᴰ (called-missing p) (turnTold bytes t) → t ≡ missing p
+told-missing bytes (packet q) p m = absurd (gave≢missing q p (bytes q) (sym (List·Memᴰ·eq-of-singleton m)))
+told-missing bytes (missing q) p m =
     let e : called-missing p ≡ called-missing q = List·Memᴰ·eq-of-singleton m in
     let i : q ≡ p = cc in
     ap missing i
-told-missing store waiting p m = absurd (List·Memᴰ·not-nil m)
+told-missing bytes waiting p m = absurd (List·Memᴰ·not-nil m)
 
 -- what is still held stays so where it isn't given and its bytes stay
 still-held : (w v : State) (p : ℕ) (b : List ℕ) (told : List Event) → v .events ≡ w .events ++ told → ((c : List ℕ) → List·Memᴰ (gave p c) told → ⊥)
@@ -130,9 +130,9 @@ module _ (w : State) (bf : Buffer w) where
         before-next = λ p b m. before-next p b (List·Memᴰ·append-cases (w .events) m);
         held = λ p h.
             let l : turned (w .session) (turn (w .session)) .window .next ≤ p = held-least (turned (w .session) (turn (w .session)) .window) p h in
-            still-held w (turnedBy w (turn (w .session))) p (slot (w .store) p) (turnTold (w .store) (turn (w .session))) refl
+            still-held w (turnedBy w (turn (w .session))) p (slot (w .store) p) (turnTold (slot (w .store)) (turn (w .session))) refl
             (λ c m.
-            let g = told-gave (w .store) (turn (w .session)) p c m in
+            let g = told-gave (slot (w .store)) (turn (w .session)) p c m in
             omega (arith, gives-next (w .session) (turn (w .session)) (shows (w .session)) p (g .0)))
             refl
             (bf .held p (sym (turned-held (w .session) (turn (w .session)) (shows (w .session)) p l) ∙ h));
@@ -140,8 +140,8 @@ module _ (w : State) (bf : Buffer w) where
     where
       lift : (p : ℕ) → ((b : List ℕ) × Served w p b) ⊎ CalledMissing w p
           → ((b : List ℕ) × Served (turnedBy w (turn (w .session))) p b) ⊎ CalledMissing (turnedBy w (turn (w .session))) p
-      lift p (inl m) = inl (m .0, Memᴰ·append-left (turnTold (w .store) (turn (w .session))) (m .1))
-      lift p (inr m) = inr (Memᴰ·append-left (turnTold (w .store) (turn (w .session))) m)
+      lift p (inl m) = inl (m .0, Memᴰ·append-left (turnTold (slot (w .store)) (turn (w .session))) (m .1))
+      lift p (inr m) = inr (Memᴰ·append-left (turnTold (slot (w .store)) (turn (w .session))) m)
 
       settled : (p : ℕ) → p < turned (w .session) (turn (w .session)) .window .next → Dec (p < w .session .window .next)
           → ((b : List ℕ) × Served (turnedBy w (turn (w .session))) p b) ⊎ CalledMissing (turnedBy w (turn (w .session))) p
@@ -149,19 +149,19 @@ module _ (w : State) (bf : Buffer w) where
       settled p l (no k) =
           settles w (turn (w .session)) (shows (w .session)) p (omega (arith, turned-next (w .session) (turn (w .session)) .1)) l
 
-      before-next : (p : ℕ) (b : List ℕ) → List·Memᴰ (gave p b) (w .events) ⊎ List·Memᴰ (gave p b) (turnTold (w .store) (turn (w .session)))
+      before-next : (p : ℕ) (b : List ℕ) → List·Memᴰ (gave p b) (w .events) ⊎ List·Memᴰ (gave p b) (turnTold (slot (w .store)) (turn (w .session)))
           → p < turned (w .session) (turn (w .session)) .window .next
       before-next p b (inl m) = omega (arith, bf .before-next p b m, turned-next (w .session) (turn (w .session)) .0)
       before-next p b (inr m) =
-          gives-next (w .session) (turn (w .session)) (shows (w .session)) p (told-gave (w .store) (turn (w .session)) p b m .0)
+          gives-next (w .session) (turn (w .session)) (shows (w .session)) p (told-gave (slot (w .store)) (turn (w .session)) p b m .0)
 
   pub has-turned : (p : ℕ) (b : List ℕ) → Has w p b → Has (turnedBy w (turn (w .session))) p b
-  has-turned p b (inl m) = inl (Memᴰ·append-left (turnTold (w .store) (turn (w .session))) m)
+  has-turned p b (inl m) = inl (Memᴰ·append-left (turnTold (slot (w .store)) (turn (w .session))) m)
   has-turned p b (inr h) = go (turn-gives (w .session) (w .store) p b h)
     where
-      given : (u : Turn) → u ≡ packet p → List·Memᴰ (gave p b) (turnTold (w .store) u)
+      given : (u : Turn) → u ≡ packet p → List·Memᴰ (gave p b) (turnTold (slot (w .store)) u)
       given u e =
-          subst (λ (v : Turn). List·Memᴰ (gave p b) (turnTold (w .store) v)) (sym e) (List·Memᴰ·head (ap (gave p) (sym (h .bytes))))
+          subst (λ (v : Turn). List·Memᴰ (gave p b) (turnTold (slot (w .store)) v)) (sym e) (List·Memᴰ·head (ap (gave p) (sym (h .bytes))))
 
       go : Holds (turned (w .session) (turn (w .session))) (w .store) p b ⊎ (turn (w .session) ≡ packet p) → Has (turnedBy w (turn (w .session))) p b
       go (inl k) = inr k

@@ -90,16 +90,16 @@ alike-b s t k =
 -- ---- the less patient one takes a turn
 
 -- what a turn gives is next, and was held
-gave-held : (s : Session) (t : Turn) → Shows s t → (p : ℕ) → t ≡ packet p → (s .window .next ≡ p) × (heldAt (s .window) p ≡ true)
+pub gave-held : (s : Session) (t : Turn) → Shows s t → (p : ℕ) → t ≡ packet p → (s .window .next ≡ p) × (heldAt (s .window) p ≡ true)
 gave-held s (packet n) (shows-packet h) p e = let i : s .window .next ≡ p = cc in (i, ap (heldAt (s .window)) (sym i) ∙ h)
 gave-held s (missing n) (shows-missing h q k l) p e = let z : _≡_ {A = ℕ} 0 1 = cc in absurd (omega arith)
 gave-held s waiting (shows-waiting h n) p e = let z : _≡_ {A = ℕ} 0 1 = cc in absurd (omega arith)
 
 module _ (f : ℕ) (a b : State) (lk : Link f a b) where
   -- b has what a gives
-  given-too : (p : ℕ) (c : List ℕ) → List·Memᴰ (gave p c) (turnTold (a .store) (turn (a .session))) → Has b p c
+  given-too : (p : ℕ) (c : List ℕ) → List·Memᴰ (gave p c) (turnTold (slot (a .store)) (turn (a .session))) → Has b p c
   given-too p c m =
-      let g = told-gave (a .store) (turn (a .session)) p c m in
+      let g = told-gave (slot (a .store)) (turn (a .session)) p c m in
       let h = gave-held (a .session) (turn (a .session)) (shows (a .session)) p (g .0) in
       subst (Has b p) (g .1) (has p (h .0) (h .1) (decLt p f))
     where
@@ -123,7 +123,7 @@ module _ (f : ℕ) (a b : State) (lk : Link f a b) where
             let d = lk .due p (omega (arith, turned-next (a .session) (turn (a .session)) .0)) (before p k m which) in
             (same p k ∙ d .0, d .1);
         served = λ p c m. ⊎-elim (lk .served p c) (given-too p c) (List·Memᴰ·append-cases (a .events) m);
-        missing-too = λ p m. Memᴰ·append-left (turnTold (a .store) (turn (a .session))) (lk .missing-too p m);
+        missing-too = λ p m. Memᴰ·append-left (turnTold (slot (a .store)) (turn (a .session))) (lk .missing-too p m);
       }
     where
       same : (p : ℕ) → turned (a .session) (turn (a .session)) .window .next ≤ p
@@ -242,7 +242,7 @@ module _ (f : ℕ) (a b : State) (lk : Link f a b) (quiet : Quiet f a) where
         due = λ p k m. let d = lk .due p k m in (d .0, has-turned b (lk .buffer-b) p (slot (a .store) p) (d .1));
         served = λ p c m. has-turned b (lk .buffer-b) p c (lk .served p c m);
         missing-too = λ p m.
-            ⊎-elim (lk .missing-too p) (λ (k : List·Memᴰ (called-missing p) (turnTold (b .store) t)). missing-a p (told-missing (b .store) t p k))
+            ⊎-elim (lk .missing-too p) (λ (k : List·Memᴰ (called-missing p) (turnTold (slot (b .store)) t)). missing-a p (told-missing (slot (b .store)) t p k))
             (List·Memᴰ·append-cases (b .events) m);
       }
 

@@ -23,7 +23,7 @@ use Rattle.reorder.specs.declared.Session.{Session}
 use Rattle.reorder.specs.Session.{withWindow, slotStart}
 use Rattle.reorder.specs.Outcome.{outcome}
 use Rattle.reorder.specs.Offer.{placed, positionOf, offerRefusal, offerSaid, offerOf}
-use Rattle.reorder.proofs.Said.{refusing-next}
+use Rattle.reorder.proofs.Said.{said-is, refusing-next}
 use Rattle.reorder.proofs.Placing.{ahead, fits}
 use Rattle.reorder.proofs.Whole.{Whole, unbroken}
 use Rattle.reorder.proofs.Taken.{taken-offer}
@@ -78,12 +78,7 @@ saidBy w x = offerSaid (w .session) (length (w .store)) x
 
 not-25 : (w : State) (x : List ℕ) → NotTooFar w x → saidBy w x ≡ refused 25 → ⊥
 unfolding offerOf
-not-25 w x n e =
-    n
-    (ap
-    (λ (y : Said ℕ).
-    outcome y (w .session) (w .store) (λ p. withWindow (w .session) (holding (w .session .window) p)) (λ p. put (w .store) (slotStart p) x) .said)
-    e)
+not-25 w x n e = n (said-is (saidBy w x) (w .session) (w .store) _ _ ∙ e)
 
 refused≢answered : (n p : ℕ) → refused n ≡ answered p → ⊥
 refused≢answered n p e = let z : _≡_ {A = ℕ} 0 1 = cc in omega arith
