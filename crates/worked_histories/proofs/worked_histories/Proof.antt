@@ -1,0 +1,176 @@
+-- Each list of calls by one step a call; what is said there by computation.
+use Prim.Native.Nat.{ℕ}
+use mathlib.Core.Path.{_≡_, refl, sym, subst}
+use mathlib.Core.Bool.{false}
+use mathlib.Core.List.{List, [], _∷_, List·Memᴰ, List·Memᴰ·head, List·Memᴰ·tail}
+use native.Mathlib.Omega.{arith}
+use lib.ListN.{length, length-replicate}
+use Rattle.octets.specs.Bytes.{put}
+use Rattle.octets.specs.Refusal.{refuse_unless_else_, _then_, refused, answered, say}
+use Rattle.checksum.specs.Sum.{wordSum, zeroed, packetSum}
+use Rattle.packet.specs.Fields.{fieldsOf}
+use Rattle.packet.specs.Header.{headerRefusal}
+use Rattle.packet.specs.Read.{readRefusal}
+use Rattle.packet_writer.specs.Write.{histogramOf, unsummed, packetOf}
+use Rattle.position.specs.Position.{position}
+use Rattle.window.specs.Window.{heldAt, someAmong, someHeld}
+use Rattle.reorder.specs.declared.Session.{Session}
+use Rattle.reorder.specs.Session.{pastEnd, broken}
+use Rattle.reorder.specs.Outcome.{refusing}
+use Rattle.reorder.specs.Offer.{placeRefusal, placed, offerRefusal, offerSaid, opened, openRefusal, openSaid}
+use Rattle.reorder_serve.specs.Turn.{packet, missing, waiting, turn, turns, turnedAll}
+use Rattle.reorder_serve.specs.Serve.{serveRefusal, drainRefusal, passRefusal}
+use Rattle.reorder_histories.specs.Histories.{Event, took, gave, called-missing, offers}
+use Rattle.worked.specs.Numbers.{counted, timedPacket}
+use Rattle.worked_histories.specs.Examples.{packetAt, filled, noPacket, lateLess, lateMore, absentLess, absentMore, start}
+use Rattle.worked_histories.proofs.Calls.{Comes, first, open-said, open-stands, waits, no-more, not-given, none-missing}
+use Rattle.worked_histories.proofs.Calls.{then-take, then-no-take, then-serve, then-drain, then-no-pass}
+use Rattle.worked_histories.proofs.worked_histories.Statement.{statement}
+use Rattle.worked_histories.proofs.worked_histories.Tie as tie
+
+-- ---- what the opening and the offers say
+
+-- a session with this threshold, next and marks
+abbrev session : ℕ → ℕ → ℕ → Session
+session h n m = record { anchor = record { count = 0; time = 0 }; «sum_word» = 53; threshold = h; window = record { next = n; marks = m } }
+
+size : (x : ℕ) → length (filled 34560 x) ≡ 34560
+unfolding filled
+size x = length-replicate {A = ℕ} 34560 x
+
+-- by the packet's position, and the threshold that it is offered to
+record Says : Type 0 where
+  opens-1 : openSaid 34560 (packetAt 0) 1 53 ≡ answered 0
+  opens-2 : openSaid 34560 (packetAt 0) 2 53 ≡ answered 0
+  opens-31 : openSaid 34560 (packetAt 0) 31 53 ≡ answered 0
+  session-opened : (h : ℕ) → opened (fieldsOf (packetAt 0)) h 53 ≡ first h
+  offer-2-to-1 : offerSaid (session 1 1 0) 34560 (packetAt 2) ≡ answered 2
+  offer-2-to-2 : offerSaid (session 2 0 1) 34560 (packetAt 2) ≡ answered 2
+  offer-2-to-31 : offerSaid (session 31 0 1) 34560 (packetAt 2) ≡ answered 2
+  offer-1-to-1 : offerSaid (session 1 3 0) 34560 (packetAt 1) ≡ refused 23
+  offer-1-to-2 : offerSaid (session 2 1 4) 34560 (packetAt 1) ≡ answered 1
+  offer-none-to-1 : offerSaid (session 1 3 0) 34560 noPacket ≡ refused 1
+  offer-none-to-2 : offerSaid (session 2 1 4) 34560 noPacket ≡ refused 1
+
+says : Says
+unfolding put refuse_unless_else_ _then_ say wordSum zeroed packetSum headerRefusal readRefusal histogramOf unsummed packetOf counted timedPacket fieldsOf position heldAt someAmong someHeld pastEnd broken refusing placeRefusal placed offerRefusal offerSaid openRefusal openSaid
+says =
+    record {
+      opens-1 = refl;
+      opens-2 = refl;
+      opens-31 = refl;
+      session-opened = λ h. refl;
+      offer-2-to-1 = refl;
+      offer-2-to-2 = refl;
+      offer-2-to-31 = refl;
+      offer-1-to-1 = refl;
+      offer-1-to-2 = refl;
+      offer-none-to-1 = refl;
+      offer-none-to-2 = refl;
+    }
+
+-- ---- the lists
+
+-- of both less patient consumers
+abbrev lessEvents : List Event
+lessEvents = took 0 (packetAt 0) ∷ gave 0 (packetAt 0) ∷ took 2 (packetAt 2) ∷ called-missing 1 ∷ gave 2 (packetAt 2) ∷ []
+
+abbrev lateMoreEvents : List Event
+lateMoreEvents = took 0 (packetAt 0) ∷ took 2 (packetAt 2) ∷ gave 0 (packetAt 0) ∷ took 1 (packetAt 1) ∷ gave 1 (packetAt 1) ∷ gave 2 (packetAt 2) ∷ []
+
+abbrev absentMoreEvents : List Event
+absentMoreEvents = took 0 (packetAt 0) ∷ took 2 (packetAt 2) ∷ gave 0 (packetAt 0) ∷ []
+
+late-less : Comes false (start lateLess) (lateLess .calls) (0 ∷ 29 ∷ 0 ∷ 0 ∷ 1 ∷ 23 ∷ 0 ∷ []) (session 1 3 0) lessEvents
+unfolding refuse_unless_else_ say heldAt someAmong someHeld pastEnd broken turn turns turnedAll serveRefusal drainRefusal
+late-less =
+    then-serve (open-stands lateLess (size 0) (says .opens-1) (says .session-opened 1)) 1080 0 (answered (packet 0)) refl (λ a.
+    then-serve a 10 0 (refused 29) refl (λ b.
+    then-take b tt 2 (says .offer-2-to-1) (λ c.
+    then-drain c 34560 0 32 (answered (missing 1 ∷ packet 2 ∷ [])) refl (λ d.
+    then-no-take d (waits d refl) noPacket 1 (λ e. omega arith) (says .offer-none-to-1) (λ e.
+    then-no-take e (waits e refl) (packetAt 1) 23 (λ f. omega arith) (says .offer-1-to-1) (λ f.
+    then-serve f 1080 0 (answered waiting) refl (λ g.
+    no-more g refl)))))))
+
+late-more : Comes false (start lateMore) (lateMore .calls) (26 ∷ 0 ∷ 0 ∷ 31 ∷ 1 ∷ 0 ∷ 0 ∷ []) (session 2 3 0) lateMoreEvents
+unfolding refuse_unless_else_ say heldAt someAmong someHeld pastEnd broken turn turns turnedAll serveRefusal drainRefusal passRefusal
+late-more =
+    then-no-pass (open-stands lateMore (size 255) (says .opens-2) (says .session-opened 2)) 26 refl (λ a.
+    then-take a tt 2 (says .offer-2-to-2) (λ b.
+    then-serve b 1080 7 (answered (packet 0)) refl (λ c.
+    then-drain c 34560 0 33 (refused 31) refl (λ d.
+    then-no-take d (waits d refl) noPacket 1 (λ e. omega arith) (says .offer-none-to-2) (λ e.
+    then-take e (waits e refl) 1 (says .offer-1-to-2) (λ f.
+    then-drain f 34560 7 32 (answered (packet 1 ∷ packet 2 ∷ [])) refl (λ g.
+    no-more g refl)))))))
+
+absent-less : Comes false (start absentLess) (absentLess .calls) (0 ∷ 0 ∷ 0 ∷ 0 ∷ []) (session 1 3 0) lessEvents
+unfolding refuse_unless_else_ say heldAt someAmong someHeld pastEnd broken turn turnedAll serveRefusal
+absent-less =
+    then-serve (open-stands absentLess (size 0) (says .opens-1) (says .session-opened 1)) 1080 0 (answered (packet 0)) refl (λ a.
+    then-take a tt 2 (says .offer-2-to-1) (λ b.
+    then-serve b 1080 0 (answered (missing 1)) refl (λ c.
+    then-serve c 1080 0 (answered (packet 2)) refl (λ d.
+    no-more d refl))))
+
+absent-more : Comes false (start absentMore) (absentMore .calls) (0 ∷ 0 ∷ 0 ∷ []) (session 31 1 4) absentMoreEvents
+unfolding refuse_unless_else_ say heldAt someAmong someHeld pastEnd broken turn turns turnedAll serveRefusal drainRefusal
+absent-more =
+    then-take (open-stands absentMore (size 255) (says .opens-31) (says .session-opened 31)) tt 2 (says .offer-2-to-31) (λ a.
+    then-drain a 34560 0 32 (answered (packet 0 ∷ [])) refl (λ b.
+    then-serve b 1080 0 (answered waiting) refl (λ c.
+    no-more c refl)))
+
+returns : tie.Need-returns
+unfolding heldAt offers
+returns c =
+    record {
+      late = record {
+        less-accepted = open-said lateLess (size 0) (says .opens-1);
+        more-accepted = open-said lateMore (size 255) (says .opens-2);
+        thresholds = omega arith;
+        same-offers = refl;
+        less-list = late-less .supposed;
+        more-list = late-more .supposed;
+      };
+      late-less-refusals = late-less .numbers;
+      late-more-refusals = late-more .numbers;
+      late-less-events = late-less .ends .events;
+      late-more-events = late-more .ends .events;
+      late-less-missing =
+          subst (List·Memᴰ (called-missing 1)) (sym (late-less .ends .events)) (List·Memᴰ·tail (List·Memᴰ·tail (List·Memᴰ·tail (List·Memᴰ·head refl))));
+      late-less-unserved =
+          λ b m. not-given 1 b lessEvents ((λ e. omega arith), ((λ e. omega arith), tt)) (subst (List·Memᴰ (gave 1 b)) (late-less .ends .events) m);
+      late-more-served =
+          subst (List·Memᴰ (gave 1 (packetAt 1))) (sym (late-more .ends .events))
+          (List·Memᴰ·tail (List·Memᴰ·tail (List·Memᴰ·tail (List·Memᴰ·tail (List·Memᴰ·head refl)))));
+      late-more-missing-none = λ p m. none-missing p lateMoreEvents tt (subst (List·Memᴰ (called-missing p)) (late-more .ends .events) m);
+      absent = record {
+        less-accepted = open-said absentLess (size 0) (says .opens-1);
+        more-accepted = open-said absentMore (size 255) (says .opens-31);
+        thresholds = omega arith;
+        same-offers = refl;
+        less-list = absent-less .supposed;
+        more-list = absent-more .supposed;
+      };
+      absent-less-refusals = absent-less .numbers;
+      absent-more-refusals = absent-more .numbers;
+      absent-less-events = absent-less .ends .events;
+      absent-more-events = absent-more .ends .events;
+      absent-less-served =
+          subst (List·Memᴰ (gave 2 (packetAt 2))) (sym (absent-less .ends .events))
+          (List·Memᴰ·tail (List·Memᴰ·tail (List·Memᴰ·tail (List·Memᴰ·tail (List·Memᴰ·head refl)))));
+      absent-more-unserved =
+          λ b m. not-given 2 b absentMoreEvents ((λ e. omega arith), tt) (subst (List·Memᴰ (gave 2 b)) (absent-more .ends .events) m);
+      absent-more-held = record {
+        earlier = took 0 (packetAt 0) ∷ [];
+        since = gave 0 (packetAt 0) ∷ [];
+        taken = absent-more .ends .events;
+        not-given = λ b m. not-given 2 b (gave 0 (packetAt 0) ∷ []) ((λ e. omega arith), tt) m;
+        bytes = absent-more .ends .bytes 2 refl;
+      };
+    }
+
+pub worked-histories-spec : {M : Type 1} → statement M
+worked-histories-spec = tie.close (tie.spec returns)

@@ -1,0 +1,124 @@
+-- Document 01, "The lists of demand 3": two pairs of consumers that meet all that demand 3 supposes, and to which the threshold makes a
+-- difference. In both pairs the less patient one calls position 1 missing. In the first pair that packet comes after position 2's, and the
+-- more patient one serves it; in the second it never comes, and the more patient one still holds position 2 at the end.
+use Prim.Native.Nat.{ℕ, _*_}
+use mathlib.Core.Path.{_≡_}
+use mathlib.Core.List.{List, [], _∷_}
+use lib.ListN.{replicate}
+use Rattle.octets.specs.Refusal.{numberSaid}
+use Rattle.reorder.specs.Offer.{offerOf, noSession}
+use Rattle.reorder_serve.specs.Serve.{serveOf, drainOf, passOf}
+use Rattle.reorder_histories.specs.Histories.{Call, offer, serve, drain, pass, took, gave, called-missing, State, step, Consumer, atStart, atEnd}
+use Rattle.reorder_histories.specs.Histories.{OpenedAlike, Served, CalledMissing, StillHeld}
+use Rattle.worked.specs.Numbers.{timedPacket}
+
+-- the packet of position p where the opening packet has count 0 and time 0: its own count is p and its time 14 p
+abbrev pub packetAt : ℕ → List ℕ
+packetAt p = timedPacket p (14 * p)
+
+-- n bytes x
+unfoldable pub filled : ℕ → ℕ → List ℕ
+filled n x = replicate n x
+
+-- too short for a packet
+abbrev pub noPacket : List ℕ
+noPacket = 1 ∷ 2 ∷ 3 ∷ []
+
+-- ---- the refused calls
+
+-- the number that a call is refused with, 0 where it isn't
+abbrev pub refusal : State → Call → ℕ
+refusal w (offer b) = numberSaid (offerOf (w .session) (w .store) b .said)
+refusal w (serve out) = numberSaid (serveOf (w .session) out (w .store) .said)
+refusal w (drain out budget) = numberSaid (drainOf (w .session) out (w .store) budget .said)
+refusal w pass = numberSaid (passOf (w .session) .said)
+
+-- that of each call, in order
+unfoldable pub refusals : State → List Call → List ℕ
+refusals w [] = []
+refusals w (c ∷ cs) = refusal w c ∷ refusals (step w c) cs
+
+-- ---- position 1 comes late
+
+abbrev pub lateLess : Consumer
+lateLess = record {
+  before = noSession;
+  store = filled 34560 0;
+  threshold = 1;
+  calls =
+      serve (filled 1080 0)
+      ∷ serve (filled 10 0)
+      ∷ offer (packetAt 2)
+      ∷ drain (filled 34560 0) 32
+      ∷ offer noPacket
+      ∷ offer (packetAt 1)
+      ∷ serve (filled 1080 0)
+      ∷ [];
+}
+
+abbrev pub lateMore : Consumer
+lateMore = record {
+  before = noSession;
+  store = filled 34560 255;
+  threshold = 2;
+  calls =
+      pass
+      ∷ offer (packetAt 2)
+      ∷ serve (filled 1080 7)
+      ∷ drain (filled 34560 0) 33
+      ∷ offer noPacket
+      ∷ offer (packetAt 1)
+      ∷ drain (filled 34560 7) 32
+      ∷ [];
+}
+
+-- ---- position 1 never comes
+
+abbrev pub absentLess : Consumer
+absentLess = record {
+  before = noSession;
+  store = filled 34560 0;
+  threshold = 1;
+  calls = serve (filled 1080 0) ∷ offer (packetAt 2) ∷ serve (filled 1080 0) ∷ serve (filled 1080 0) ∷ [];
+}
+
+abbrev pub absentMore : Consumer
+absentMore = record {
+  before = noSession;
+  store = filled 34560 255;
+  threshold = 31;
+  calls = offer (packetAt 2) ∷ drain (filled 34560 0) 32 ∷ serve (filled 1080 0) ∷ [];
+}
+
+-- ---- what they come to
+
+-- each opens with the packet of position 0, and the sum's word 53
+abbrev pub start : Consumer → State
+start c = atStart c (packetAt 0) 53
+
+abbrev pub end : Consumer → State
+end c = atEnd c (packetAt 0) 53
+
+pub record Examples : Type 0 where
+  -- position 1 comes late: all that is supposed, the refused calls, every event, and so who serves it
+  pub late : OpenedAlike lateLess lateMore (packetAt 0) 53
+  pub late-less-refusals : refusals (start lateLess) (lateLess .calls) ≡ 0 ∷ 29 ∷ 0 ∷ 0 ∷ 1 ∷ 23 ∷ 0 ∷ []
+  pub late-more-refusals : refusals (start lateMore) (lateMore .calls) ≡ 26 ∷ 0 ∷ 0 ∷ 31 ∷ 1 ∷ 0 ∷ 0 ∷ []
+  pub late-less-events : end lateLess .events
+      ≡ took 0 (packetAt 0) ∷ gave 0 (packetAt 0) ∷ took 2 (packetAt 2) ∷ called-missing 1 ∷ gave 2 (packetAt 2) ∷ []
+  pub late-more-events : end lateMore .events
+      ≡ took 0 (packetAt 0) ∷ took 2 (packetAt 2) ∷ gave 0 (packetAt 0) ∷ took 1 (packetAt 1) ∷ gave 1 (packetAt 1) ∷ gave 2 (packetAt 2) ∷ []
+  pub late-less-missing : CalledMissing (end lateLess) 1
+  pub late-less-unserved : (c : List ℕ) → Served (end lateLess) 1 c → ⊥
+  pub late-more-served : Served (end lateMore) 1 (packetAt 1)
+  pub late-more-missing-none : (p : ℕ) → CalledMissing (end lateMore) p → ⊥
+  -- position 1 never comes: the same, and so who serves position 2 and who still holds it
+  pub absent : OpenedAlike absentLess absentMore (packetAt 0) 53
+  pub absent-less-refusals : refusals (start absentLess) (absentLess .calls) ≡ 0 ∷ 0 ∷ 0 ∷ 0 ∷ []
+  pub absent-more-refusals : refusals (start absentMore) (absentMore .calls) ≡ 0 ∷ 0 ∷ 0 ∷ []
+  pub absent-less-events : end absentLess .events
+      ≡ took 0 (packetAt 0) ∷ gave 0 (packetAt 0) ∷ took 2 (packetAt 2) ∷ called-missing 1 ∷ gave 2 (packetAt 2) ∷ []
+  pub absent-more-events : end absentMore .events ≡ took 0 (packetAt 0) ∷ took 2 (packetAt 2) ∷ gave 0 (packetAt 0) ∷ []
+  pub absent-less-served : Served (end absentLess) 2 (packetAt 2)
+  pub absent-more-unserved : (c : List ℕ) → Served (end absentMore) 2 c → ⊥
+  pub absent-more-held : StillHeld (end absentMore) 2 (packetAt 2)
