@@ -5,12 +5,13 @@ use mathlib.Core.List.{List, [], _∷_, _++_, map}
 use lib.ListN.{length, take}
 use Rattle.octets.specs.Refusal.{Said, refused, answered}
 use Rattle.reorder.specs.declared.Session.{Session}
+use Rattle.reorder.specs.Offer.{openOf, offerOf, noSession}
 use Rattle.reorder_serve.specs.Turn.{Turn, packet, missing, waiting, described, describedAll}
-use Rattle.reorder_serve.specs.Serve.{drainSaid, counted, descriptions}
+use Rattle.reorder_serve.specs.Serve.{drainSaid, drainOf, counted, descriptions}
 use Rattle.reorder_serve.specs.declared.Description.{Description}
 use Rattle.reorder_serve.specs.declared.Report.{Report}
-use Rattle.reorder_histories.specs.Histories.{Call, Event, State, step, run, HigherThresholdLosesNothing}
-use Rattle.reorder_steps.specs.Steps.{describedBy, firstOf, reported, Made, HistoriesLoseNothing}
+use Rattle.reorder_histories.specs.Histories.{Call, offer, drain, Event, State, step, run, HigherThresholdLosesNothing}
+use Rattle.reorder_steps.specs.Steps.{describedBy, firstOf, reported, IsStart, IsStep, Made, secondOf, Short, HistoriesLoseNothing}
 
 -- ---- one call
 
@@ -40,10 +41,6 @@ reads-back r x e f = (λ i. firstOf (f i) (e i)) ∙ read-answers x
 
 -- ---- a history
 
--- a step from the state that the history has come to
-pub next-step : {w u v : State} (c : Call) → u ≡ w → v ≡ step u c → v ≡ step w c
-next-step c e f = f ∙ ap (λ (x : State). step x c) e
-
 pub made-runs : (w u : State) (cs : List Call) → Made w cs u → u ≡ run w cs
 unfolding Made run
 made-runs w u [] e = e
@@ -55,3 +52,33 @@ histories-lose-nothing h =
       are-runs = made-runs;
       lose-nothing = λ less more b w u v o m n. rw (made-runs _ u _ m, made-runs _ v _ n) (h less more b w o);
     }
+
+-- what the three calls of a short history promise, one after another
+module _ (store out first b : List ℕ) (threshold word : ℕ) where
+  pub short : {s t u : Session} {c d e : List ℕ} {x y z : List Event} {r : Report}
+      → s ≡ openOf noSession store first threshold word .session → c ≡ openOf noSession store first threshold word .bytes
+      → IsStart (openOf noSession store first threshold word) first s c x
+      → t ≡ offerOf s c b .session → d ≡ offerOf s c b .bytes → IsStep s c (offer b) t d y
+      → drainSaid (r .answer) ≡ counted (drainOf t out d 32 .said) → r .descriptions ≡ descriptions (drainOf t out d 32 .said)
+      → u ≡ drainOf t out d 32 .session → e ≡ drainOf t out d 32 .bytes → IsStep t d (drain out 32) u d z
+      → Short store out first b threshold word r u d e
+  unfolding Made
+  short {s} {t} {u} {c} {d} {e} {x} {y} {z} {r} os oc oh fs fc fh dn dd ds dc dh =
+      let second = secondOf store first b threshold word in
+      let ts : t ≡ second .session = fs ∙ (λ i. offerOf (os i) (oc i) b .session) in
+      let tc : d ≡ second .bytes = fc ∙ (λ i. offerOf (os i) (oc i) b .bytes) in
+      record {
+        count = dn ∙ (λ i. counted (drainOf (ts i) out (tc i) 32 .said));
+        described = dd ∙ (λ i. descriptions (drainOf (ts i) out (tc i) 32 .said));
+        session = ds ∙ (λ i. drainOf (ts i) out (tc i) 32 .session);
+        stored = tc;
+        output = dc ∙ (λ i. drainOf (ts i) out (tc i) 32 .bytes);
+        history = (
+          (x ++ y) ++ z,
+          (
+            record { session = t; store = d; events = x ++ y },
+            fh x ∙ ap (λ (w : State). step w (offer b)) oh,
+            (record { session = u; store = d; events = (x ++ y) ++ z }, dh (x ++ y), refl),
+          ),
+        );
+      }

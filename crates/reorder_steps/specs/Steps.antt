@@ -8,11 +8,12 @@ use lib.ListN.{take}
 use Rattle.octets.specs.Refusal.{Said, refused, answered}
 use Rattle.reorder.specs.declared.Session.{Session}
 use Rattle.reorder.specs.Outcome.{Outcome}
+use Rattle.reorder.specs.Offer.{openOf, offerOf, noSession}
 use Rattle.reorder_serve.specs.Turn.{Turn, packet, missing, waiting}
-use Rattle.reorder_serve.specs.Serve.{drainSaid}
+use Rattle.reorder_serve.specs.Serve.{drainSaid, drainOf, counted, descriptions}
 use Rattle.reorder_serve.specs.declared.Description.{Description}
 use Rattle.reorder_serve.specs.declared.Report.{Report}
-use Rattle.reorder_histories.specs.Histories.{Call, pass, Event, State, start, step, run, Consumer, atStart, OpenedAlike, NothingLost}
+use Rattle.reorder_histories.specs.Histories.{Call, offer, drain, pass, Event, State, start, step, run, Consumer, atStart, OpenedAlike, NothingLost}
 
 -- ---- what a drain reports, as answers
 
@@ -47,9 +48,25 @@ unfoldable pub Made : State → List Call → State → Type 0
 Made w [] u = u ≡ w
 Made w (c ∷ cs) u = (v : State) × (v ≡ step w c) × Made v cs u
 
+-- the offer of b after an opening with the packet first, and the drain of 32 after it
+abbrev pub secondOf : List ℕ → List ℕ → List ℕ → ℕ → ℕ → Outcome ℕ
+secondOf store first b threshold word = let o = openOf noSession store first threshold word in offerOf (o .session) (o .bytes) b
+
+abbrev pub thirdOf : List ℕ → List ℕ → List ℕ → List ℕ → ℕ → ℕ → Outcome (List Turn)
+thirdOf store out first b threshold word = let o = secondOf store first b threshold word in drainOf (o .session) out (o .bytes) 32
+
 -- a history from w has come to this session and this store
 abbrev pub ComesTo : State → List Call → Session → List ℕ → Type 0
 ComesTo w cs t c = (events : List Event) × Made w cs (record { session = t; store = c; events = events })
+
+-- an opening with the packet first, an offer of b and a drain of 32 into out: what is reported, the session, the store and the output then
+pub record Short (store out first b : List ℕ) (threshold word : ℕ) (report : Report) (t : Session) (c o : List ℕ) : Type 0 where
+  pub count : drainSaid (report .answer) ≡ counted (thirdOf store out first b threshold word .said)
+  pub described : report .descriptions ≡ descriptions (thirdOf store out first b threshold word .said)
+  pub session : t ≡ thirdOf store out first b threshold word .session
+  pub stored : c ≡ secondOf store first b threshold word .bytes
+  pub output : o ≡ thirdOf store out first b threshold word .bytes
+  pub history : ComesTo (start (openOf noSession store first threshold word) first) (offer b ∷ drain out 32 ∷ []) t c
 
 -- demand 3 for the states that two histories of calls have come to
 pub record HistoriesLoseNothing : Type 0 where

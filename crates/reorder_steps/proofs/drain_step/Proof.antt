@@ -21,8 +21,10 @@ returns c =
     let o = drainOf (a .session) (now (a .out)) (now (a .store)) (a .budget) in
     let d = c .before .before .drain in
     let e = d .ensures in
-    let r = reads-back (d .result .answer) (o .said) (e .0) (e .1 .0) in
-    stands {t = o .session} (e .1 .1 .0) refl (λ i. drainTells (r i) (e .1 .1 .1 .0 i))
+    let r = reads-back (d .result .answer) (o .said) (e .0) (e .1 .0) in (
+      e .0,
+      (e .1 .0, (e .1 .1 .0, (e .1 .1 .1 .0, stands {t = o .session} (e .1 .1 .0) refl (λ i. drainTells (r i) (e .1 .1 .1 .0 i))))),
+    )
 
 pub drain-step-spec : {M : Type 1} → statement M
 drain-step-spec = tie.close (tie.spec drain-requires same-length returns)

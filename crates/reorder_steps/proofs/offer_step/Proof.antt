@@ -17,7 +17,7 @@ unfolding step
 returns c =
     let a = c .before .before .before .before .before .before .args in
     let e = c .before .before .offer .ensures in
-    stands (e .1 .0) (e .1 .1) (λ i. offerTells (e .0 i) (now (a .packet)))
+    (e .0, (e .1 .0, (e .1 .1, stands (e .1 .0) (e .1 .1) (λ i. offerTells (e .0 i) (now (a .packet))))))
 
 pub offer-step-spec : {M : Type 1} → statement M
 offer-step-spec = tie.close (tie.spec offer-requires same-length returns)

@@ -1,7 +1,5 @@
 -- The promises of the three calls, one after another.
-use mathlib.Core.Path.{refl}
-use Rattle.reorder_steps.specs.Steps.{Made}
-use Rattle.reorder_steps.proofs.Steps.{next-step}
+use Rattle.reorder_steps.proofs.Steps.{short}
 use borrow.Author.Needs.{needs}
 use Rattle.reorder_steps.proofs.open_offer_drain.Statement.{statement}
 use Rattle.reorder_steps.proofs.open_offer_drain.Tie as tie
@@ -22,12 +20,12 @@ same-length-2 : tie.Need-same-length-2
 same-length-2 c = search needs
 
 returns : tie.Need-returns
-unfolding Made
 returns c =
-    let d = c .before .before .drain-step in
-    let f = c .before .before .before .before .before .before .before .offer-step in
-    let o = c .before .before .before .before .before .before .before .before .before .before .before .open-start in
-    (_, (_, next-step _ (o .ensures) (f .ensures _), (_, d .ensures _, refl)))
+    let d = c .before .before .drain-step .ensures in
+    let f = c .before .before .before .before .before .before .before .offer-step .ensures in
+    let o = c .before .before .before .before .before .before .before .before .before .before .before .open-start .ensures in
+    short _ _ _ _ _ _ (o .1 .0) (o .1 .1 .0) (o .1 .1 .1) (f .1 .0) (f .1 .1 .0) (f .1 .1 .1)
+    (d .0) (d .1 .0) (d .1 .1 .0) (d .1 .1 .1 .0) (d .1 .1 .1 .1)
 
 pub open-offer-drain-spec : {M : Type 1} → statement M
 open-offer-drain-spec =

@@ -17,7 +17,7 @@ returns : tie.Need-returns
 returns c =
     let a = c .before .before .before .before .before .before .args in
     let e = c .before .before .«open» .ensures in
-    stands (e .1 .0) (e .1 .1) (λ i. offerTells (e .0 i) (now (a .packet))) []
+    (e .0, (e .1 .0, (e .1 .1, stands (e .1 .0) (e .1 .1) (λ i. offerTells (e .0 i) (now (a .packet))) [])))
 
 pub open-start-spec : {M : Type 1} → statement M
 open-start-spec = tie.close (tie.spec open-requires same-length returns)

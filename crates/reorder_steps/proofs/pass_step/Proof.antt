@@ -11,7 +11,9 @@ pass-requires c κs = search needs
 
 returns : tie.Need-returns
 unfolding step
-returns c = λ store. stands (c .pass .ensures .1) refl (ap passTells (c .pass .ensures .0))
+returns c =
+    let e = c .pass .ensures in
+    (e .0, (e .1, λ store. stands (e .1) refl (ap passTells (e .0))))
 
 pub pass-step-spec : {M : Type 1} → statement M
 pass-step-spec = tie.close (tie.spec pass-requires returns)

@@ -16,7 +16,7 @@ returns : tie.Need-returns
 unfolding step
 returns c =
     let e = c .before .before .serve .ensures in
-    stands (e .1 .0) refl (λ i. serveTells (e .0 i) (e .1 .1 i))
+    (e .0, (e .1 .0, (e .1 .1, stands (e .1 .0) refl (λ i. serveTells (e .0 i) (e .1 .1 i)))))
 
 pub serve-step-spec : {M : Type 1} → statement M
 serve-step-spec = tie.close (tie.spec serve-requires same-length returns)
