@@ -32,8 +32,18 @@ turnTold bytes waiting = []
 abbrev pub turnedBy : State → Turn → State
 turnedBy w t = record { session = turned (w .session) t; store = w .store; events = w .events ++ turnTold (slot (w .store)) t }
 
+-- one turn: the session then, what it tells, and the state then
+abbrev pub oneTurn : Session → Session
+oneTurn s = turned s (turn s)
+
+abbrev pub toldBy : State → List Event
+toldBy w = turnTold (slot (w .store)) (turn (w .session))
+
+abbrev pub turnedOnce : State → State
+turnedOnce w = turnedBy w (turn (w .session))
+
 unfoldable pub afterTurn : State → State
-afterTurn w = turnedBy w (turn (w .session))
+afterTurn w = turnedOnce w
 
 unfoldable pub afterTurns : ℕ → State → State
 afterTurns zero w = w
@@ -131,21 +141,21 @@ all-turns (suc n) w = go (turns-split n s) (all-turns n (afterTurn w))
 
     rest : State
     rest = record {
-      session = turnedAll (turned s (turn s)) (turns n (turned s (turn s)));
+      session = turnedAll (oneTurn s) (turns n (oneTurn s));
       store = w .store;
-      events = (w .events ++ turnTold (slot (w .store)) (turn s)) ++ turnsTold (slot (w .store)) (turns n (turned s (turn s)));
+      events = (w .events ++ turnTold (slot (w .store)) (turn s)) ++ turnsTold (slot (w .store)) (turns n (oneTurn s));
     }
 
-    go : ((turn s ≡ waiting) × (turns (suc n) s ≡ [])) ⊎ (turns (suc n) s ≡ turn s ∷ turns n (turned s (turn s))) → ByTurns (afterTurn w) rest
+    go : ((turn s ≡ waiting) × (turns (suc n) s ≡ [])) ⊎ (turns (suc n) s ≡ turn s ∷ turns n (oneTurn s)) → ByTurns (afterTurn w) rest
         → ByTurns w (after (turns (suc n) s))
     go (inl e) r = (0, ap after (e .1) ∙ same-state w)
     go (inr e) r = (
       suc (r .0),
       ap after e
           ∙ (λ i. record {
-            session = turnedAll (turned s (turn s)) (turns n (turned s (turn s)));
+            session = turnedAll (oneTurn s) (turns n (oneTurn s));
             store = w .store;
-            events = sym (append-assoc (w .events) (turnTold (slot (w .store)) (turn s)) (turnsTold (slot (w .store)) (turns n (turned s (turn s))))) i;
+            events = sym (append-assoc (w .events) (turnTold (slot (w .store)) (turn s)) (turnsTold (slot (w .store)) (turns n (oneTurn s)))) i;
           })
           ∙ r .1,
     )

@@ -36,7 +36,7 @@ use Rattle.reorder_laws.proofs.Kept.{whole-turned, whole-holding}
 use Rattle.reorder_laws.proofs.Pieces.{piece-same}
 use Rattle.reorder_laws.proofs.Bytes.{beside, turn-gives}
 use Rattle.reorder_histories.specs.Histories.{Event, took, gave, called-missing, State, Served, CalledMissing, StillHeld}
-use Rattle.reorder_histories.proofs.Between.{turnTold, turnedBy}
+use Rattle.reorder_histories.proofs.Between.{turnTold, turnedBy, oneTurn, toldBy, turnedOnce}
 
 -- ---- events
 
@@ -121,7 +121,7 @@ settles w (missing n) (shows-missing e q h k) p i l = inr (Memᴰ·append-right 
 settles w waiting (shows-waiting e n) p i l = absurd (omega arith)
 
 module _ (w : State) (bf : Buffer w) where
-  pub buffer-turned : Buffer (turnedBy w (turn (w .session)))
+  pub buffer-turned : Buffer (turnedOnce w)
   buffer-turned =
       record {
         sound = whole-turned (w .session) (bf .sound);
@@ -129,8 +129,8 @@ module _ (w : State) (bf : Buffer w) where
         settled = λ p l. settled p l (decLt p (w .session .window .next));
         before-next = λ p b m. before-next p b (List·Memᴰ·append-cases (w .events) m);
         held = λ p h.
-            let l : turned (w .session) (turn (w .session)) .window .next ≤ p = held-least (turned (w .session) (turn (w .session)) .window) p h in
-            still-held w (turnedBy w (turn (w .session))) p (slot (w .store) p) (turnTold (slot (w .store)) (turn (w .session))) refl
+            let l : oneTurn (w .session) .window .next ≤ p = held-least (oneTurn (w .session) .window) p h in
+            still-held w (turnedOnce w) p (slot (w .store) p) (toldBy w) refl
             (λ c m.
             let g = told-gave (slot (w .store)) (turn (w .session)) p c m in
             omega (arith, gives-next (w .session) (turn (w .session)) (shows (w .session)) p (g .0)))
@@ -139,31 +139,31 @@ module _ (w : State) (bf : Buffer w) where
       }
     where
       lift : (p : ℕ) → ((b : List ℕ) × Served w p b) ⊎ CalledMissing w p
-          → ((b : List ℕ) × Served (turnedBy w (turn (w .session))) p b) ⊎ CalledMissing (turnedBy w (turn (w .session))) p
-      lift p (inl m) = inl (m .0, Memᴰ·append-left (turnTold (slot (w .store)) (turn (w .session))) (m .1))
-      lift p (inr m) = inr (Memᴰ·append-left (turnTold (slot (w .store)) (turn (w .session))) m)
+          → ((b : List ℕ) × Served (turnedOnce w) p b) ⊎ CalledMissing (turnedOnce w) p
+      lift p (inl m) = inl (m .0, Memᴰ·append-left (toldBy w) (m .1))
+      lift p (inr m) = inr (Memᴰ·append-left (toldBy w) m)
 
-      settled : (p : ℕ) → p < turned (w .session) (turn (w .session)) .window .next → Dec (p < w .session .window .next)
-          → ((b : List ℕ) × Served (turnedBy w (turn (w .session))) p b) ⊎ CalledMissing (turnedBy w (turn (w .session))) p
+      settled : (p : ℕ) → p < oneTurn (w .session) .window .next → Dec (p < w .session .window .next)
+          → ((b : List ℕ) × Served (turnedOnce w) p b) ⊎ CalledMissing (turnedOnce w) p
       settled p l (yes k) = lift p (bf .settled p k)
       settled p l (no k) =
           settles w (turn (w .session)) (shows (w .session)) p (omega (arith, turned-next (w .session) (turn (w .session)) .1)) l
 
-      before-next : (p : ℕ) (b : List ℕ) → List·Memᴰ (gave p b) (w .events) ⊎ List·Memᴰ (gave p b) (turnTold (slot (w .store)) (turn (w .session)))
-          → p < turned (w .session) (turn (w .session)) .window .next
+      before-next : (p : ℕ) (b : List ℕ) → List·Memᴰ (gave p b) (w .events) ⊎ List·Memᴰ (gave p b) (toldBy w)
+          → p < oneTurn (w .session) .window .next
       before-next p b (inl m) = omega (arith, bf .before-next p b m, turned-next (w .session) (turn (w .session)) .0)
       before-next p b (inr m) =
           gives-next (w .session) (turn (w .session)) (shows (w .session)) p (told-gave (slot (w .store)) (turn (w .session)) p b m .0)
 
-  pub has-turned : (p : ℕ) (b : List ℕ) → Has w p b → Has (turnedBy w (turn (w .session))) p b
-  has-turned p b (inl m) = inl (Memᴰ·append-left (turnTold (slot (w .store)) (turn (w .session))) m)
+  pub has-turned : (p : ℕ) (b : List ℕ) → Has w p b → Has (turnedOnce w) p b
+  has-turned p b (inl m) = inl (Memᴰ·append-left (toldBy w) m)
   has-turned p b (inr h) = go (turn-gives (w .session) (w .store) p b h)
     where
       given : (u : Turn) → u ≡ packet p → List·Memᴰ (gave p b) (turnTold (slot (w .store)) u)
       given u e =
           subst (λ (v : Turn). List·Memᴰ (gave p b) (turnTold (slot (w .store)) v)) (sym e) (List·Memᴰ·head (ap (gave p) (sym (h .bytes))))
 
-      go : Holds (turned (w .session) (turn (w .session))) (w .store) p b ⊎ (turn (w .session) ≡ packet p) → Has (turnedBy w (turn (w .session))) p b
+      go : Holds (oneTurn (w .session)) (w .store) p b ⊎ (turn (w .session) ≡ packet p) → Has (turnedOnce w) p b
       go (inl k) = inr k
       go (inr e) = inl (Memᴰ·append-right (w .events) (given (turn (w .session)) e))
 

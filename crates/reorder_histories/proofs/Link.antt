@@ -14,7 +14,7 @@ use Rattle.reorder_serve.specs.Turn.{Turn, packet, missing, waiting, turn, turn
 use Rattle.reorder_serve.proofs.Turns.{Shows, shows-packet, shows-missing, shows-waiting, shows}
 use Rattle.reorder_laws.proofs.Kept.{keeps-turned}
 use Rattle.reorder_histories.specs.Histories.{took, gave, called-missing, State, Served, CalledMissing, StillHeld, NothingLost}
-use Rattle.reorder_histories.proofs.Between.{turnTold, turnedBy, afterTurn}
+use Rattle.reorder_histories.proofs.Between.{turnTold, afterTurn, oneTurn, toldBy, turnedOnce}
 use Rattle.reorder_histories.proofs.Buffer.{
   told-gave,
   told-missing,
@@ -69,7 +69,7 @@ nothing-lost f a b lk = record { served = λ p c m. go p c (lk .served p c m); m
     go p c (inr h) = inr (subst (StillHeld b p) (h .bytes) (lk .buffer-b .held p (h .held)))
 
 -- a session after a turn, against another
-alike-a : (s t : Session) → Alike s t → Alike (turned s (turn s)) t
+alike-a : (s t : Session) → Alike s t → Alike (oneTurn s) t
 alike-a s t k =
     let e = keeps-turned s in
     record {
@@ -78,7 +78,7 @@ alike-a s t k =
       thresholds = omega (arith, e .same-threshold, k .thresholds);
     }
 
-alike-b : (s t : Session) → Alike s t → Alike s (turned t (turn t))
+alike-b : (s t : Session) → Alike s t → Alike s (oneTurn t)
 alike-b s t k =
     let e = keeps-turned t in
     record {
@@ -97,7 +97,7 @@ gave-held s waiting (shows-waiting h n) p e = let z : _≡_ {A = ℕ} 0 1 = cc i
 
 module _ (f : ℕ) (a b : State) (lk : Link f a b) where
   -- b has what a gives
-  given-too : (p : ℕ) (c : List ℕ) → List·Memᴰ (gave p c) (turnTold (slot (a .store)) (turn (a .session))) → Has b p c
+  given-too : (p : ℕ) (c : List ℕ) → List·Memᴰ (gave p c) (toldBy a) → Has b p c
   given-too p c m =
       let g = told-gave (slot (a .store)) (turn (a .session)) p c m in
       let h = gave-held (a .session) (turn (a .session)) (shows (a .session)) p (g .0) in
@@ -108,8 +108,8 @@ module _ (f : ℕ) (a b : State) (lk : Link f a b) where
       has q i h (no n) = inr (record { held = sym (lk .above q (omega arith)) ∙ h; bytes = sym (lk .bytes q (omega arith) h) })
 
   -- the frontier stays, or moves to the new next
-  a-turns : (g : ℕ) → f ≤ g → turned (a .session) (turn (a .session)) .window .next ≤ g
-      → (g ≤ f) ⊎ (g ≤ turned (a .session) (turn (a .session)) .window .next) → Link g (turnedBy a (turn (a .session))) b
+  a-turns : (g : ℕ) → f ≤ g → oneTurn (a .session) .window .next ≤ g
+      → (g ≤ f) ⊎ (g ≤ oneTurn (a .session) .window .next) → Link g (turnedOnce a) b
   a-turns g up l which =
       record {
         buffer-a = buffer-turned a (lk .buffer-a);
@@ -123,25 +123,25 @@ module _ (f : ℕ) (a b : State) (lk : Link f a b) where
             let d = lk .due p (omega (arith, turned-next (a .session) (turn (a .session)) .0)) (before p k m which) in
             (same p k ∙ d .0, d .1);
         served = λ p c m. ⊎-elim (lk .served p c) (given-too p c) (List·Memᴰ·append-cases (a .events) m);
-        missing-too = λ p m. Memᴰ·append-left (turnTold (slot (a .store)) (turn (a .session))) (lk .missing-too p m);
+        missing-too = λ p m. Memᴰ·append-left (toldBy a) (lk .missing-too p m);
       }
     where
-      same : (p : ℕ) → turned (a .session) (turn (a .session)) .window .next ≤ p
-          → heldAt (turned (a .session) (turn (a .session)) .window) p ≡ heldAt (a .session .window) p
+      same : (p : ℕ) → oneTurn (a .session) .window .next ≤ p
+          → heldAt (oneTurn (a .session) .window) p ≡ heldAt (a .session .window) p
       same p k = turned-held (a .session) (turn (a .session)) (shows (a .session)) p k
 
-      before : (p : ℕ) → turned (a .session) (turn (a .session)) .window .next ≤ p → p < g
-          → (g ≤ f) ⊎ (g ≤ turned (a .session) (turn (a .session)) .window .next) → p < f
+      before : (p : ℕ) → oneTurn (a .session) .window .next ≤ p → p < g
+          → (g ≤ f) ⊎ (g ≤ oneTurn (a .session) .window .next) → p < f
       before p k m (inl i) = omega arith
       before p k m (inr i) = absurd (omega arith)
 
   pub turn-a : (g : ℕ) × Link g (afterTurn a) b
   unfolding afterTurn
-  turn-a = go (decLt f (turned (a .session) (turn (a .session)) .window .next))
+  turn-a = go (decLt f (oneTurn (a .session) .window .next))
     where
-      go : Dec (f < turned (a .session) (turn (a .session)) .window .next) → (g : ℕ) × Link g (turnedBy a (turn (a .session))) b
+      go : Dec (f < oneTurn (a .session) .window .next) → (g : ℕ) × Link g (turnedOnce a) b
       go (yes l) =
-          let n = turned (a .session) (turn (a .session)) .window .next in
+          let n = oneTurn (a .session) .window .next in
           (n, a-turns n (omega arith) (omega arith) (inr (omega arith)))
       go (no m) = (f, a-turns f (omega arith) (omega arith) (inl (omega arith)))
 
@@ -154,7 +154,7 @@ module _ (f : ℕ) (a b : State) (lk : Link f a b) where
       go (no n) = omega (arith, lk .next-a)
 
   -- where a buffer with next at the frontier would wait, no turn of a moves past it
-  turn-below : Quiet f a → turned (a .session) (turn (a .session)) .window .next ≤ f
+  turn-below : Quiet f a → oneTurn (a .session) .window .next ≤ f
   turn-below quiet = go (turn (a .session)) (shows (a .session))
     where
       go : (t : Turn) → Shows (a .session) t → turned (a .session) t .window .next ≤ f
@@ -177,7 +177,7 @@ module _ (f : ℕ) (a b : State) (lk : Link f a b) where
         record {
           free = turned-held s (turn s) (shows s) f l ∙ quiet .free;
           near = λ q h k.
-              quiet .near q (sym (turned-held s (turn s) (shows s) q (held-least (turned s (turn s) .window) q h)) ∙ h)
+              quiet .near q (sym (turned-held s (turn s) (shows s) q (held-least (oneTurn s .window) q h)) ∙ h)
               (omega (arith, keeps-turned s .same-threshold));
         },
       )
