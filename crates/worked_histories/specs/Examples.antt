@@ -1,6 +1,6 @@
 -- Document 01, "The lists of demand 3": two pairs of consumers that meet all that demand 3 supposes, and to which the threshold makes a
--- difference. In both pairs the less patient one calls position 1 missing. In the first pair that packet comes after position 2's, and the
--- more patient one serves it; in the second it never comes, and the more patient one still holds position 2 at the end.
+-- difference. In the first pair position 1 comes after position 2: the less patient one has called it missing, the more patient one serves it.
+-- In the second it never comes, and both call it missing, the more patient one after position 5 has come, which it still holds at the end.
 use Prim.Native.Nat.{ℕ, _*_}
 use mathlib.Core.Path.{_≡_}
 use mathlib.Core.List.{List, [], _∷_}
@@ -79,15 +79,29 @@ absentLess = record {
   before = noSession;
   store = filled 34560 0;
   threshold = 1;
-  calls = serve (filled 1080 0) ∷ offer (packetAt 2) ∷ serve (filled 1080 0) ∷ serve (filled 1080 0) ∷ [];
+  calls =
+      serve (filled 1080 0)
+      ∷ offer (packetAt 2)
+      ∷ serve (filled 1080 0)
+      ∷ serve (filled 1080 0)
+      ∷ offer (packetAt 5)
+      ∷ drain (filled 34560 0) 32
+      ∷ [];
 }
 
 abbrev pub absentMore : Consumer
 absentMore = record {
   before = noSession;
   store = filled 34560 255;
-  threshold = 31;
-  calls = offer (packetAt 2) ∷ drain (filled 34560 0) 32 ∷ serve (filled 1080 0) ∷ [];
+  threshold = 3;
+  calls =
+      offer (packetAt 2)
+      ∷ drain (filled 34560 0) 32
+      ∷ serve (filled 1080 0)
+      ∷ offer (packetAt 5)
+      ∷ serve (filled 1080 7)
+      ∷ serve (filled 1080 7)
+      ∷ [];
 }
 
 -- ---- what they come to
@@ -112,13 +126,16 @@ pub record Examples : Type 0 where
   pub late-less-unserved : (c : List ℕ) → Served (end lateLess) 1 c → ⊥
   pub late-more-served : Served (end lateMore) 1 (packetAt 1)
   pub late-more-missing-none : (p : ℕ) → CalledMissing (end lateMore) p → ⊥
-  -- position 1 never comes: the same, and so who serves position 2 and who still holds it
+  -- position 1 never comes: the same, and so who calls it missing, who serves position 5, and who still holds it
   pub absent : OpenedAlike absentLess absentMore (packetAt 0) 53
-  pub absent-less-refusals : refusals (start absentLess) (absentLess .calls) ≡ 0 ∷ 0 ∷ 0 ∷ 0 ∷ []
-  pub absent-more-refusals : refusals (start absentMore) (absentMore .calls) ≡ 0 ∷ 0 ∷ 0 ∷ []
+  pub absent-less-refusals : refusals (start absentLess) (absentLess .calls) ≡ 0 ∷ 0 ∷ 0 ∷ 0 ∷ 0 ∷ 0 ∷ []
+  pub absent-more-refusals : refusals (start absentMore) (absentMore .calls) ≡ 0 ∷ 0 ∷ 0 ∷ 0 ∷ 0 ∷ 0 ∷ []
   pub absent-less-events : end absentLess .events
-      ≡ took 0 (packetAt 0) ∷ gave 0 (packetAt 0) ∷ took 2 (packetAt 2) ∷ called-missing 1 ∷ gave 2 (packetAt 2) ∷ []
-  pub absent-more-events : end absentMore .events ≡ took 0 (packetAt 0) ∷ took 2 (packetAt 2) ∷ gave 0 (packetAt 0) ∷ []
-  pub absent-less-served : Served (end absentLess) 2 (packetAt 2)
-  pub absent-more-unserved : (c : List ℕ) → Served (end absentMore) 2 c → ⊥
-  pub absent-more-held : StillHeld (end absentMore) 2 (packetAt 2)
+      ≡ took 0 (packetAt 0) ∷ gave 0 (packetAt 0) ∷ took 2 (packetAt 2) ∷ called-missing 1 ∷ gave 2 (packetAt 2) ∷ took 5 (packetAt 5) ∷ called-missing 3 ∷ called-missing 4 ∷ gave 5 (packetAt 5) ∷ []
+  pub absent-more-events : end absentMore .events
+      ≡ took 0 (packetAt 0) ∷ took 2 (packetAt 2) ∷ gave 0 (packetAt 0) ∷ took 5 (packetAt 5) ∷ called-missing 1 ∷ gave 2 (packetAt 2) ∷ []
+  pub absent-more-missing : CalledMissing (end absentMore) 1
+  pub absent-less-missing : CalledMissing (end absentLess) 1
+  pub absent-less-served : Served (end absentLess) 5 (packetAt 5)
+  pub absent-more-unserved : (c : List ℕ) → Served (end absentMore) 5 c → ⊥
+  pub absent-more-held : StillHeld (end absentMore) 5 (packetAt 5)

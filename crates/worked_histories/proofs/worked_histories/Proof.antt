@@ -42,13 +42,15 @@ size x = length-replicate {A = ℕ} 34560 x
 record Says : Type 0 where
   opens-1 : openSaid 34560 (packetAt 0) 1 53 ≡ answered 0
   opens-2 : openSaid 34560 (packetAt 0) 2 53 ≡ answered 0
-  opens-31 : openSaid 34560 (packetAt 0) 31 53 ≡ answered 0
+  opens-3 : openSaid 34560 (packetAt 0) 3 53 ≡ answered 0
   session-opened : (h : ℕ) → opened (fieldsOf (packetAt 0)) h 53 ≡ first h
   offer-2-to-1 : offerSaid (session 1 1 0) 34560 (packetAt 2) ≡ answered 2
   offer-2-to-2 : offerSaid (session 2 0 1) 34560 (packetAt 2) ≡ answered 2
-  offer-2-to-31 : offerSaid (session 31 0 1) 34560 (packetAt 2) ≡ answered 2
+  offer-2-to-3 : offerSaid (session 3 0 1) 34560 (packetAt 2) ≡ answered 2
   offer-1-to-1 : offerSaid (session 1 3 0) 34560 (packetAt 1) ≡ refused 23
   offer-1-to-2 : offerSaid (session 2 1 4) 34560 (packetAt 1) ≡ answered 1
+  offer-5-to-1 : offerSaid (session 1 3 0) 34560 (packetAt 5) ≡ answered 5
+  offer-5-to-3 : offerSaid (session 3 1 4) 34560 (packetAt 5) ≡ answered 5
   offer-none-to-1 : offerSaid (session 1 3 0) 34560 noPacket ≡ refused 1
   offer-none-to-2 : offerSaid (session 2 1 4) 34560 noPacket ≡ refused 1
 
@@ -58,30 +60,35 @@ says =
     record {
       opens-1 = refl;
       opens-2 = refl;
-      opens-31 = refl;
+      opens-3 = refl;
       session-opened = λ h. refl;
       offer-2-to-1 = refl;
       offer-2-to-2 = refl;
-      offer-2-to-31 = refl;
+      offer-2-to-3 = refl;
       offer-1-to-1 = refl;
       offer-1-to-2 = refl;
+      offer-5-to-1 = refl;
+      offer-5-to-3 = refl;
       offer-none-to-1 = refl;
       offer-none-to-2 = refl;
     }
 
 -- ---- the lists
 
--- of both less patient consumers
-abbrev lessEvents : List Event
-lessEvents = took 0 (packetAt 0) ∷ gave 0 (packetAt 0) ∷ took 2 (packetAt 2) ∷ called-missing 1 ∷ gave 2 (packetAt 2) ∷ []
+abbrev lateLessEvents : List Event
+lateLessEvents = took 0 (packetAt 0) ∷ gave 0 (packetAt 0) ∷ took 2 (packetAt 2) ∷ called-missing 1 ∷ gave 2 (packetAt 2) ∷ []
 
 abbrev lateMoreEvents : List Event
 lateMoreEvents = took 0 (packetAt 0) ∷ took 2 (packetAt 2) ∷ gave 0 (packetAt 0) ∷ took 1 (packetAt 1) ∷ gave 1 (packetAt 1) ∷ gave 2 (packetAt 2) ∷ []
 
-abbrev absentMoreEvents : List Event
-absentMoreEvents = took 0 (packetAt 0) ∷ took 2 (packetAt 2) ∷ gave 0 (packetAt 0) ∷ []
+abbrev absentLessEvents : List Event
+absentLessEvents =
+    took 0 (packetAt 0) ∷ gave 0 (packetAt 0) ∷ took 2 (packetAt 2) ∷ called-missing 1 ∷ gave 2 (packetAt 2) ∷ took 5 (packetAt 5) ∷ called-missing 3 ∷ called-missing 4 ∷ gave 5 (packetAt 5) ∷ []
 
-late-less : Comes false (start lateLess) (lateLess .calls) (0 ∷ 29 ∷ 0 ∷ 0 ∷ 1 ∷ 23 ∷ 0 ∷ []) (session 1 3 0) lessEvents
+abbrev absentMoreEvents : List Event
+absentMoreEvents = took 0 (packetAt 0) ∷ took 2 (packetAt 2) ∷ gave 0 (packetAt 0) ∷ took 5 (packetAt 5) ∷ called-missing 1 ∷ gave 2 (packetAt 2) ∷ []
+
+late-less : Comes false (start lateLess) (lateLess .calls) (0 ∷ 29 ∷ 0 ∷ 0 ∷ 1 ∷ 23 ∷ 0 ∷ []) (session 1 3 0) lateLessEvents
 unfolding refuse_unless_else_ say heldAt someAmong someHeld pastEnd broken turn turns turnedAll serveRefusal drainRefusal
 late-less =
     then-serve (open-stands lateLess (size 0) (says .opens-1) (says .session-opened 1)) 1080 0 (answered (packet 0)) refl (λ a.
@@ -105,22 +112,27 @@ late-more =
     then-drain f 34560 7 32 (answered (packet 1 ∷ packet 2 ∷ [])) refl (λ g.
     no-more g refl)))))))
 
-absent-less : Comes false (start absentLess) (absentLess .calls) (0 ∷ 0 ∷ 0 ∷ 0 ∷ []) (session 1 3 0) lessEvents
-unfolding refuse_unless_else_ say heldAt someAmong someHeld pastEnd broken turn turnedAll serveRefusal
+absent-less : Comes false (start absentLess) (absentLess .calls) (0 ∷ 0 ∷ 0 ∷ 0 ∷ 0 ∷ 0 ∷ []) (session 1 6 0) absentLessEvents
+unfolding refuse_unless_else_ say heldAt someAmong someHeld pastEnd broken turn turns turnedAll serveRefusal drainRefusal
 absent-less =
     then-serve (open-stands absentLess (size 0) (says .opens-1) (says .session-opened 1)) 1080 0 (answered (packet 0)) refl (λ a.
     then-take a tt 2 (says .offer-2-to-1) (λ b.
     then-serve b 1080 0 (answered (missing 1)) refl (λ c.
     then-serve c 1080 0 (answered (packet 2)) refl (λ d.
-    no-more d refl))))
+    then-take d (waits d refl) 5 (says .offer-5-to-1) (λ e.
+    then-drain e 34560 0 32 (answered (missing 3 ∷ missing 4 ∷ packet 5 ∷ [])) refl (λ f.
+    no-more f refl))))))
 
-absent-more : Comes false (start absentMore) (absentMore .calls) (0 ∷ 0 ∷ 0 ∷ []) (session 31 1 4) absentMoreEvents
+absent-more : Comes false (start absentMore) (absentMore .calls) (0 ∷ 0 ∷ 0 ∷ 0 ∷ 0 ∷ 0 ∷ []) (session 3 3 32) absentMoreEvents
 unfolding refuse_unless_else_ say heldAt someAmong someHeld pastEnd broken turn turns turnedAll serveRefusal drainRefusal
 absent-more =
-    then-take (open-stands absentMore (size 255) (says .opens-31) (says .session-opened 31)) tt 2 (says .offer-2-to-31) (λ a.
+    then-take (open-stands absentMore (size 255) (says .opens-3) (says .session-opened 3)) tt 2 (says .offer-2-to-3) (λ a.
     then-drain a 34560 0 32 (answered (packet 0 ∷ [])) refl (λ b.
     then-serve b 1080 0 (answered waiting) refl (λ c.
-    no-more c refl)))
+    then-take c (waits c refl) 5 (says .offer-5-to-3) (λ d.
+    then-serve d 1080 7 (answered (missing 1)) refl (λ e.
+    then-serve e 1080 7 (answered (packet 2)) refl (λ f.
+    no-more f refl))))))
 
 returns : tie.Need-returns
 unfolding heldAt offers
@@ -141,14 +153,14 @@ returns c =
       late-less-missing =
           subst (List·Memᴰ (called-missing 1)) (sym (late-less .ends .events)) (List·Memᴰ·tail (List·Memᴰ·tail (List·Memᴰ·tail (List·Memᴰ·head refl))));
       late-less-unserved =
-          λ b m. not-given 1 b lessEvents ((λ e. omega arith), ((λ e. omega arith), tt)) (subst (List·Memᴰ (gave 1 b)) (late-less .ends .events) m);
+          λ b m. not-given 1 b lateLessEvents ((λ e. omega arith), ((λ e. omega arith), tt)) (subst (List·Memᴰ (gave 1 b)) (late-less .ends .events) m);
       late-more-served =
           subst (List·Memᴰ (gave 1 (packetAt 1))) (sym (late-more .ends .events))
           (List·Memᴰ·tail (List·Memᴰ·tail (List·Memᴰ·tail (List·Memᴰ·tail (List·Memᴰ·head refl)))));
       late-more-missing-none = λ p m. none-missing p lateMoreEvents tt (subst (List·Memᴰ (called-missing p)) (late-more .ends .events) m);
       absent = record {
         less-accepted = open-said absentLess (size 0) (says .opens-1);
-        more-accepted = open-said absentMore (size 255) (says .opens-31);
+        more-accepted = open-said absentMore (size 255) (says .opens-3);
         thresholds = omega arith;
         same-offers = refl;
         less-list = absent-less .supposed;
@@ -158,17 +170,25 @@ returns c =
       absent-more-refusals = absent-more .numbers;
       absent-less-events = absent-less .ends .events;
       absent-more-events = absent-more .ends .events;
-      absent-less-served =
-          subst (List·Memᴰ (gave 2 (packetAt 2))) (sym (absent-less .ends .events))
+      absent-more-missing =
+          subst (List·Memᴰ (called-missing 1)) (sym (absent-more .ends .events))
           (List·Memᴰ·tail (List·Memᴰ·tail (List·Memᴰ·tail (List·Memᴰ·tail (List·Memᴰ·head refl)))));
+      absent-less-missing =
+          subst (List·Memᴰ (called-missing 1)) (sym (absent-less .ends .events)) (List·Memᴰ·tail (List·Memᴰ·tail (List·Memᴰ·tail (List·Memᴰ·head refl))));
+      absent-less-served =
+          subst (List·Memᴰ (gave 5 (packetAt 5))) (sym (absent-less .ends .events))
+          (List·Memᴰ·tail
+          (List·Memᴰ·tail
+          (List·Memᴰ·tail (List·Memᴰ·tail (List·Memᴰ·tail (List·Memᴰ·tail (List·Memᴰ·tail (List·Memᴰ·tail (List·Memᴰ·head refl)))))))));
       absent-more-unserved =
-          λ b m. not-given 2 b absentMoreEvents ((λ e. omega arith), tt) (subst (List·Memᴰ (gave 2 b)) (absent-more .ends .events) m);
+          λ b m.
+          not-given 5 b absentMoreEvents ((λ e. omega arith), ((λ e. omega arith), tt)) (subst (List·Memᴰ (gave 5 b)) (absent-more .ends .events) m);
       absent-more-held = record {
-        earlier = took 0 (packetAt 0) ∷ [];
-        since = gave 0 (packetAt 0) ∷ [];
+        earlier = took 0 (packetAt 0) ∷ took 2 (packetAt 2) ∷ gave 0 (packetAt 0) ∷ [];
+        since = called-missing 1 ∷ gave 2 (packetAt 2) ∷ [];
         taken = absent-more .ends .events;
-        not-given = λ b m. not-given 2 b (gave 0 (packetAt 0) ∷ []) ((λ e. omega arith), tt) m;
-        bytes = absent-more .ends .bytes 2 refl;
+        not-given = λ b m. not-given 5 b (called-missing 1 ∷ gave 2 (packetAt 2) ∷ []) ((λ e. omega arith), tt) m;
+        bytes = absent-more .ends .bytes 5 refl;
       };
     }
 
