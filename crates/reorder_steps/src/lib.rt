@@ -26,6 +26,22 @@ pub fn open_start(store: &mut [u8], packet: &[u8], threshold: u32, sum_word: u16
     reorder::open(store, packet, threshold, sum_word)
 }
 
+pub fn open_or_start(
+    session: Session,
+    store: &mut [u8],
+    packet: &[u8],
+    threshold: u32,
+    sum_word: u16,
+) -> Offered
+    ensures { λ r. ⌜ (said (r .answer) ≡ openOf session (now (store .entry)) (now (packet .entry)) threshold «sum_word» .said)
+        × ((r .session ≡ openOf session (now (store .entry)) (now (packet .entry)) threshold «sum_word» .session)
+        × ((now (store .exit) ≡ openOf session (now (store .entry)) (now (packet .entry)) threshold «sum_word» .bytes)
+        × IsStart (openOf session (now (store .entry)) (now (packet .entry)) threshold «sum_word») (now (packet .entry))
+        (r .session) (now (store .exit)) (offerTells (said (r .answer)) (now (packet .entry))))) ⌝ }
+{
+    reorder::open_or(session, store, packet, threshold, sum_word)
+}
+
 pub fn offer_step(session: Session, store: &mut [u8], packet: &[u8]) -> Offered
     ensures { λ r. ⌜ (said (r .answer) ≡ offerOf session (now (store .entry)) (now (packet .entry)) .said)
         × ((r .session ≡ offerOf session (now (store .entry)) (now (packet .entry)) .session)
