@@ -192,7 +192,7 @@ missed s (missing n) (shows-missing h q k l) p e = let i : s .window .next ≡ p
 missed s waiting (shows-waiting h n) p e = let z : _≡_ {A = ℕ} 0 1 = cc in absurd (omega arith)
 
 module _ (f : ℕ) (a b : State) (lk : Link f a b) (quiet : Quiet f a) where
-  -- b has the less to serve, and the higher threshold
+  -- at the frontier b holds what a does, and its threshold is no lower, so no turn of b moves past it
   b-below : (t : Turn) → Shows (b .session) t → turned (b .session) t .window .next ≤ f
   b-below (packet n) (shows-packet h) = by (decLt (b .session .window .next) f)
     where
