@@ -74,7 +74,7 @@ pub record State : Type 0 where
   pub store : List ℕ
   pub events : List Event
 
--- the opening of a packet
+-- the state after the opening o with the packet b
 abbrev pub start : Outcome ℕ → List ℕ → State
 start o b = record { session = o .session; store = o .bytes; events = offerTells (o .said) b }
 
@@ -106,7 +106,7 @@ pub record Waits (w : State) : Type 0 where
   pub answers : serveOf (w .session) out (w .store) .said ≡ answered waiting
 
 -- "After each offer, serves and drains follow until the rack waits … Before the first offer there may be some or none."
--- So the rack waits wherever the next offer or the end comes after an offer; `offered` says that there has been one.
+-- So the buffer waits wherever the next offer or the end comes after an offer; `offered` says that there has been one.
 abbrev pub WaitsAfter : Bool → State → Type 0
 WaitsAfter true w = Waits w
 WaitsAfter false w = Unit {0}
@@ -136,27 +136,27 @@ pub record Consumer : Type 0 where
   pub threshold : ℕ
   pub calls : List Call
 
--- its opening with the packet b and the sum's word w, the state then, and the state after its calls
+-- its opening with the packet b and the sum at a word, the state then, and the state after its calls
 abbrev pub opening : Consumer → List ℕ → ℕ → Outcome ℕ
-opening c b w = openOf (c .before) (c .store) b (c .threshold) w
+opening c b word = openOf (c .before) (c .store) b (c .threshold) word
 
 abbrev pub atStart : Consumer → List ℕ → ℕ → State
-atStart c b w = start (opening c b w) b
+atStart c b word = start (opening c b word) b
 
 abbrev pub atEnd : Consumer → List ℕ → ℕ → State
-atEnd c b w = run (atStart c b w) (c .calls)
+atEnd c b word = run (atStart c b word) (c .calls)
 
 -- less is the less patient one, more the more patient one
-pub record OpenedAlike (less more : Consumer) (b : List ℕ) (w : ℕ) : Type 0 where
+pub record OpenedAlike (less more : Consumer) (b : List ℕ) (word : ℕ) : Type 0 where
   -- "Both openings are accepted, with the same packet and sum's place, each with a store of its own, whatever that held."
-  pub less-accepted : opening less b w .said ≡ answered 0
-  pub more-accepted : opening more b w .said ≡ answered 0
+  pub less-accepted : opening less b word .said ≡ answered 0
+  pub more-accepted : opening more b word .said ≡ answered 0
   -- "Patiences may be equal; either rack is then the less patient."
   pub thresholds : less .threshold ≤ more .threshold
   -- "Both lists offer the same packets, of any bytes and length, in the same order; their other calls may differ."
   pub same-offers : offers (less .calls) ≡ offers (more .calls)
-  pub less-list : Supposed false (atStart less b w) (less .calls)
-  pub more-list : Supposed false (atStart more b w) (more .calls)
+  pub less-list : Supposed false (atStart less b word) (less .calls)
+  pub more-list : Supposed false (atStart more b word) (more .calls)
 
 -- ---- what then holds at the end
 
@@ -184,4 +184,4 @@ pub record NothingLost (less more : State) : Type 0 where
 -- "Demand 3 is one claim about the two whole lists, not one for each call."
 abbrev pub HigherThresholdLosesNothing : Type 0
 HigherThresholdLosesNothing =
-    (less more : Consumer) (b : List ℕ) (w : ℕ) → OpenedAlike less more b w → NothingLost (atEnd less b w) (atEnd more b w)
+    (less more : Consumer) (b : List ℕ) (word : ℕ) → OpenedAlike less more b word → NothingLost (atEnd less b word) (atEnd more b word)

@@ -1,7 +1,8 @@
 // Whole lists of calls (document 01, "The lists of demand 3").
 ghost use Rattle.reorder_histories.specs.Histories.{HigherThresholdLosesNothing};
 
-// Demand 3: a consumer with a higher threshold (document 01's patience) never loses what one with a lower threshold got.
+// Demand 3: what a consumer with a lower threshold (document 01's patience) was served, one with a higher threshold was served too or still
+// holds, and each position called missing for that one was called missing for the other. The definition says what is supposed of both.
 pub fn higher_threshold_loses_nothing()
     ensures { λ _. ⌜ HigherThresholdLosesNothing ⌝ }
 {}
