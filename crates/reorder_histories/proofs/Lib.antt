@@ -3,3 +3,4 @@ pub mod Buffer
 pub mod Link
 pub mod Offers
 pub mod Theorem
+pub mod Waiting

@@ -105,6 +105,13 @@ record First (w : State) (b : List ℕ) (h word : ℕ) : Type 0 where
   size : length (w .store) ≡ 34560
   holds : Holds (w .session) (w .store) 0 b
 
+-- its store has the right size
+pub opened-size : (c : Consumer) (b : List ℕ) (word : ℕ) → opening c b word .said ≡ answered 0 → length (c .store) ≡ 34560
+unfolding openOf
+opened-size c b word e =
+    let l = left (openSaid (length (c .store)) b (c .threshold) word) (c .before) (c .store) _ _ 0 e in
+    accepted-opening (length (c .store)) b (c .threshold) word 0 (l .answer) .store
+
 first : (c : Consumer) (b : List ℕ) (w : ℕ) → opening c b w .said ≡ answered 0 → First (atStart c b w) b (c .threshold) w
 unfolding openOf
 first c b w e =
@@ -113,8 +120,7 @@ first c b w e =
       session = l .session;
       events = ap (λ (x : _). offerTells x b) e;
       sound = whole _ (calls-keep .by-open (c .before) (c .store) b (c .threshold) w 0 e);
-      size = calls-keep .by-open-store (c .before) (c .store) b (c .threshold) w
-          ∙ accepted-opening (length (c .store)) b (c .threshold) w 0 (l .answer) .store;
+      size = calls-keep .by-open-store (c .before) (c .store) b (c .threshold) w ∙ opened-size c b w e;
       holds = bytes-come-out .open-holds (c .before) (c .store) b (c .threshold) w 0 e;
     }
 

@@ -47,7 +47,7 @@ module _ (store : List ℕ) (size : length store ≡ 34560) (one : List ℕ) (ro
     pub session : serveOf s one store .session ≡ turned s (turn s)
     pub bytes : serveOf s one store .bytes ≡ shown 0 store one (turn s)
 
-  fine : (s : Session) → Whole s → Fine s
+  pub fine : (s : Session) → Whole s → Fine s
   unfolding serveOf serveRefusal
   fine s v =
       let n = serveRefusal s (length store) (length one) in

@@ -1,7 +1,7 @@
 -- What a call answers and leaves, as a step; and a history of calls, as a run.
 use Prim.Native.Nat.{ℕ}
-use mathlib.Core.Path.{_≡_, refl, ap, _∙_}
-use mathlib.Core.List.{List, [], _∷_, _++_, map}
+use mathlib.Core.Path.{_≡_, refl, sym, ap, _∙_}
+use mathlib.Core.List.{List, [], _∷_, _++_, map, append-assoc}
 use lib.ListN.{length, take}
 use Rattle.octets.specs.Refusal.{Said, refused, answered}
 use Rattle.reorder.specs.declared.Session.{Session}
@@ -10,7 +10,7 @@ use Rattle.reorder_serve.specs.Turn.{Turn, packet, missing, waiting, described,
 use Rattle.reorder_serve.specs.Serve.{drainSaid, drainOf, counted, descriptions}
 use Rattle.reorder_serve.specs.declared.Description.{Description}
 use Rattle.reorder_serve.specs.declared.Report.{Report}
-use Rattle.reorder_histories.specs.Histories.{Call, offer, drain, Event, State, step, run, HigherThresholdLosesNothing}
+use Rattle.reorder_histories.specs.Histories.{Call, offer, drain, Event, offerTells, drainTells, State, step, run, HigherThresholdLosesNothing}
 use Rattle.reorder_steps.specs.Steps.{describedBy, firstOf, reported, IsStart, IsStep, Made, secondOf, Short, HistoriesLoseNothing}
 
 -- ---- one call
@@ -55,18 +55,20 @@ histories-lose-nothing h =
 
 -- what the three calls of a short history promise, one after another
 module _ (store out first b : List ℕ) (threshold word : ℕ) where
-  pub short : {s t u : Session} {c d e : List ℕ} {x y z : List Event} {r : Report}
-      → s ≡ openOf noSession store first threshold word .session → c ≡ openOf noSession store first threshold word .bytes
-      → IsStart (openOf noSession store first threshold word) first s c x
-      → t ≡ offerOf s c b .session → d ≡ offerOf s c b .bytes → IsStep s c (offer b) t d y
+  pub short : {s t u : Session} {c d e : List ℕ} {x y : Said ℕ} {r : Report}
+      → x ≡ openOf noSession store first threshold word .said → s ≡ openOf noSession store first threshold word .session
+      → c ≡ openOf noSession store first threshold word .bytes → IsStart (openOf noSession store first threshold word) first s c (offerTells x first)
+      → y ≡ offerOf s c b .said → t ≡ offerOf s c b .session → d ≡ offerOf s c b .bytes → IsStep s c (offer b) t d (offerTells y b)
       → drainSaid (r .answer) ≡ counted (drainOf t out d 32 .said) → r .descriptions ≡ descriptions (drainOf t out d 32 .said)
-      → u ≡ drainOf t out d 32 .session → e ≡ drainOf t out d 32 .bytes → IsStep t d (drain out 32) u d z
+      → u ≡ drainOf t out d 32 .session → e ≡ drainOf t out d 32 .bytes → IsStep t d (drain out 32) u d (drainTells (reported r) e)
       → Short store out first b threshold word r u d e
   unfolding Made
-  short {s} {t} {u} {c} {d} {e} {x} {y} {z} {r} os oc oh fs fc fh dn dd ds dc dh =
+  short {s} {t} {u} {c} {d} {e} {x} {y} {r} ox os oc oh fy fs fc fh dn dd ds dc dh =
       let second = secondOf store first b threshold word in
       let ts : t ≡ second .session = fs ∙ (λ i. offerOf (os i) (oc i) b .session) in
       let tc : d ≡ second .bytes = fc ∙ (λ i. offerOf (os i) (oc i) b .bytes) in
+      let ty : y ≡ second .said = fy ∙ (λ i. offerOf (os i) (oc i) b .said) in
+      let told : List Event = drainTells (reported r) e in
       record {
         count = dn ∙ (λ i. counted (drainOf (ts i) out (tc i) 32 .said));
         described = dd ∙ (λ i. descriptions (drainOf (ts i) out (tc i) 32 .said));
@@ -74,11 +76,14 @@ module _ (store out first b : List ℕ) (threshold word : ℕ) where
         stored = tc;
         output = dc ∙ (λ i. drainOf (ts i) out (tc i) 32 .bytes);
         history = (
-          (x ++ y) ++ z,
+          record { session = t; store = d; events = offerTells x first ++ offerTells y b },
+          fh (offerTells x first) ∙ ap (λ (w : State). step w (offer b)) oh,
           (
-            record { session = t; store = d; events = x ++ y },
-            fh x ∙ ap (λ (w : State). step w (offer b)) oh,
-            (record { session = u; store = d; events = (x ++ y) ++ z }, dh (x ++ y), refl),
+            record { session = u; store = d; events = (offerTells x first ++ offerTells y b) ++ told },
+            dh (offerTells x first ++ offerTells y b),
+            sym
+                (ap (λ (l : List Event). record { session = u; store = d; events = l }) (append-assoc (offerTells x first) (offerTells y b) told)
+                ∙ (λ i. record { session = u; store = d; events = offerTells (ox i) first ++ (offerTells (ty i) b ++ told) })),
           ),
         );
       }

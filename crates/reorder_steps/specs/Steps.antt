@@ -1,4 +1,4 @@
--- The same for code: what each of the calls answers and leaves is a step of a list of calls, so a history of calls is a run.
+-- The calls of the code and the lists of demand 3: what a call answers and leaves is a step of a list, so a history of calls is a run.
 use Prim.Native.Nat.{ℕ}
 use mathlib.Core.Path.{_≡_}
 use mathlib.Core.Bool.{cond}
@@ -13,7 +13,7 @@ use Rattle.reorder_serve.specs.Turn.{Turn, packet, missing, waiting}
 use Rattle.reorder_serve.specs.Serve.{drainSaid, drainOf, counted, descriptions}
 use Rattle.reorder_serve.specs.declared.Description.{Description}
 use Rattle.reorder_serve.specs.declared.Report.{Report}
-use Rattle.reorder_histories.specs.Histories.{Call, offer, drain, pass, Event, State, start, step, run, Consumer, atStart, OpenedAlike, NothingLost}
+use Rattle.reorder_histories.specs.Histories.{Call, offer, drain, pass, Event, offerTells, drainTells, State, start, step, run, Consumer, atStart, OpenedAlike, NothingLost}
 
 -- ---- what a drain reports, as answers
 
@@ -55,10 +55,6 @@ secondOf store first b threshold word = let o = openOf noSession store first thr
 abbrev pub thirdOf : List ℕ → List ℕ → List ℕ → List ℕ → ℕ → ℕ → Outcome (List Turn)
 thirdOf store out first b threshold word = let o = secondOf store first b threshold word in drainOf (o .session) out (o .bytes) 32
 
--- a history from w has come to this session and this store
-abbrev pub ComesTo : State → List Call → Session → List ℕ → Type 0
-ComesTo w cs t c = (events : List Event) × Made w cs (record { session = t; store = c; events = events })
-
 -- an opening with the packet first, an offer of b and a drain of 32 into out: what is reported, the session, the store and the output then
 pub record Short (store out first b : List ℕ) (threshold word : ℕ) (report : Report) (t : Session) (c o : List ℕ) : Type 0 where
   pub count : drainSaid (report .answer) ≡ counted (thirdOf store out first b threshold word .said)
@@ -66,7 +62,14 @@ pub record Short (store out first b : List ℕ) (threshold word : ℕ) (report :
   pub session : t ≡ thirdOf store out first b threshold word .session
   pub stored : c ≡ secondOf store first b threshold word .bytes
   pub output : o ≡ thirdOf store out first b threshold word .bytes
-  pub history : ComesTo (start (openOf noSession store first threshold word) first) (offer b ∷ drain out 32 ∷ []) t c
+  -- the three calls are a history, and its events are those that they tell
+  pub history : Made (start (openOf noSession store first threshold word) first) (offer b ∷ drain out 32 ∷ [])
+      (record {
+        session = t;
+        store = c;
+        events = offerTells (openOf noSession store first threshold word .said) first
+            ++ (offerTells (secondOf store first b threshold word .said) b ++ drainTells (reported report) o);
+      })
 
 -- demand 3 for the states that two histories of calls have come to
 pub record HistoriesLoseNothing : Type 0 where

@@ -33,7 +33,7 @@ use Rattle.reorder_histories.specs.Histories.{State, step, run, Waits, WaitsAft
 use Rattle.reorder_histories.proofs.Between.{turnsTold, told-all}
 use Rattle.reorder_histories.proofs.Buffer.{turned-held}
 use Rattle.reorder_histories.proofs.Link.{gave-held}
-use Rattle.worked_histories.specs.Examples.{packetAt, filled, refusal, refusals, start}
+use Rattle.worked_histories.specs.Examples.{packetAt, filled, refusal, refusals, begun}
 
 -- ---- what is known
 
@@ -106,7 +106,7 @@ module _ (c : Consumer) (size : length (c .store) ≡ 34560) (e : openSaid 34560
   unfolding openOf
   open-session = left (openSaid (length (c .store)) (packetAt 0) (c .threshold) 53) (c .before) (c .store) _ _ 0 open-said .session
 
-  pub open-stands : opened (fieldsOf (packetAt 0)) (c .threshold) 53 ≡ first (c .threshold) → Stands (start c) (first (c .threshold)) (took 0 (packetAt 0) ∷ [])
+  pub open-stands : opened (fieldsOf (packetAt 0)) (c .threshold) 53 ≡ first (c .threshold) → Stands (begun c) (first (c .threshold)) (took 0 (packetAt 0) ∷ [])
   open-stands f =
       record {
         session = open-session ∙ f;

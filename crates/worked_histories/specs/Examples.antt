@@ -107,35 +107,35 @@ absentMore = record {
 -- ---- what they come to
 
 -- each opens with the packet of position 0, and the sum's word 53
-abbrev pub start : Consumer → State
-start c = atStart c (packetAt 0) 53
+abbrev pub begun : Consumer → State
+begun c = atStart c (packetAt 0) 53
 
-abbrev pub end : Consumer → State
-end c = atEnd c (packetAt 0) 53
+abbrev pub ended : Consumer → State
+ended c = atEnd c (packetAt 0) 53
 
 pub record Examples : Type 0 where
   -- position 1 comes late: all that is supposed, the refused calls, every event, and so who serves it
   pub late : OpenedAlike lateLess lateMore (packetAt 0) 53
-  pub late-less-refusals : refusals (start lateLess) (lateLess .calls) ≡ 0 ∷ 29 ∷ 0 ∷ 0 ∷ 1 ∷ 23 ∷ 0 ∷ []
-  pub late-more-refusals : refusals (start lateMore) (lateMore .calls) ≡ 26 ∷ 0 ∷ 0 ∷ 31 ∷ 1 ∷ 0 ∷ 0 ∷ []
-  pub late-less-events : end lateLess .events
+  pub late-less-refusals : refusals (begun lateLess) (lateLess .calls) ≡ 0 ∷ 29 ∷ 0 ∷ 0 ∷ 1 ∷ 23 ∷ 0 ∷ []
+  pub late-more-refusals : refusals (begun lateMore) (lateMore .calls) ≡ 26 ∷ 0 ∷ 0 ∷ 31 ∷ 1 ∷ 0 ∷ 0 ∷ []
+  pub late-less-events : ended lateLess .events
       ≡ took 0 (packetAt 0) ∷ gave 0 (packetAt 0) ∷ took 2 (packetAt 2) ∷ called-missing 1 ∷ gave 2 (packetAt 2) ∷ []
-  pub late-more-events : end lateMore .events
+  pub late-more-events : ended lateMore .events
       ≡ took 0 (packetAt 0) ∷ took 2 (packetAt 2) ∷ gave 0 (packetAt 0) ∷ took 1 (packetAt 1) ∷ gave 1 (packetAt 1) ∷ gave 2 (packetAt 2) ∷ []
-  pub late-less-missing : CalledMissing (end lateLess) 1
-  pub late-less-unserved : (c : List ℕ) → Served (end lateLess) 1 c → ⊥
-  pub late-more-served : Served (end lateMore) 1 (packetAt 1)
-  pub late-more-missing-none : (p : ℕ) → CalledMissing (end lateMore) p → ⊥
+  pub late-less-missing : CalledMissing (ended lateLess) 1
+  pub late-less-unserved : (c : List ℕ) → Served (ended lateLess) 1 c → ⊥
+  pub late-more-served : Served (ended lateMore) 1 (packetAt 1)
+  pub late-more-missing-none : (p : ℕ) → CalledMissing (ended lateMore) p → ⊥
   -- position 1 never comes: the same, and so who calls it missing, who serves position 5, and who still holds it
   pub absent : OpenedAlike absentLess absentMore (packetAt 0) 53
-  pub absent-less-refusals : refusals (start absentLess) (absentLess .calls) ≡ 0 ∷ 0 ∷ 0 ∷ 0 ∷ 0 ∷ 0 ∷ []
-  pub absent-more-refusals : refusals (start absentMore) (absentMore .calls) ≡ 0 ∷ 0 ∷ 0 ∷ 0 ∷ 0 ∷ 0 ∷ []
-  pub absent-less-events : end absentLess .events
+  pub absent-less-refusals : refusals (begun absentLess) (absentLess .calls) ≡ 0 ∷ 0 ∷ 0 ∷ 0 ∷ 0 ∷ 0 ∷ []
+  pub absent-more-refusals : refusals (begun absentMore) (absentMore .calls) ≡ 0 ∷ 0 ∷ 0 ∷ 0 ∷ 0 ∷ 0 ∷ []
+  pub absent-less-events : ended absentLess .events
       ≡ took 0 (packetAt 0) ∷ gave 0 (packetAt 0) ∷ took 2 (packetAt 2) ∷ called-missing 1 ∷ gave 2 (packetAt 2) ∷ took 5 (packetAt 5) ∷ called-missing 3 ∷ called-missing 4 ∷ gave 5 (packetAt 5) ∷ []
-  pub absent-more-events : end absentMore .events
+  pub absent-more-events : ended absentMore .events
       ≡ took 0 (packetAt 0) ∷ took 2 (packetAt 2) ∷ gave 0 (packetAt 0) ∷ took 5 (packetAt 5) ∷ called-missing 1 ∷ gave 2 (packetAt 2) ∷ []
-  pub absent-more-missing : CalledMissing (end absentMore) 1
-  pub absent-less-missing : CalledMissing (end absentLess) 1
-  pub absent-less-served : Served (end absentLess) 5 (packetAt 5)
-  pub absent-more-unserved : (c : List ℕ) → Served (end absentMore) 5 c → ⊥
-  pub absent-more-held : StillHeld (end absentMore) 5 (packetAt 5)
+  pub absent-more-missing : CalledMissing (ended absentMore) 1
+  pub absent-less-missing : CalledMissing (ended absentLess) 1
+  pub absent-less-served : Served (ended absentLess) 5 (packetAt 5)
+  pub absent-more-unserved : (c : List ℕ) → Served (ended absentMore) 5 c → ⊥
+  pub absent-more-held : StillHeld (ended absentMore) 5 (packetAt 5)

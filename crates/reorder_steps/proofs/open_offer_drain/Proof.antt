@@ -24,7 +24,7 @@ returns c =
     let d = c .before .before .drain-step .ensures in
     let f = c .before .before .before .before .before .before .before .offer-step .ensures in
     let o = c .before .before .before .before .before .before .before .before .before .before .before .open-start .ensures in
-    short _ _ _ _ _ _ (o .1 .0) (o .1 .1 .0) (o .1 .1 .1) (f .1 .0) (f .1 .1 .0) (f .1 .1 .1)
+    short _ _ _ _ _ _ (o .0) (o .1 .0) (o .1 .1 .0) (o .1 .1 .1) (f .0) (f .1 .0) (f .1 .1 .0) (f .1 .1 .1)
     (d .0) (d .1 .0) (d .1 .1 .0) (d .1 .1 .1 .0) (d .1 .1 .1 .1)
 
 pub open-offer-drain-spec : {M : Type 1} → statement M

@@ -22,7 +22,7 @@ use Rattle.reorder_serve.specs.Turn.{packet, missing, waiting, turn, turns, tur
 use Rattle.reorder_serve.specs.Serve.{serveRefusal, drainRefusal, passRefusal}
 use Rattle.reorder_histories.specs.Histories.{Event, took, gave, called-missing, offers}
 use Rattle.worked.specs.Numbers.{counted, timedPacket}
-use Rattle.worked_histories.specs.Examples.{packetAt, filled, noPacket, lateLess, lateMore, absentLess, absentMore, start}
+use Rattle.worked_histories.specs.Examples.{packetAt, filled, noPacket, lateLess, lateMore, absentLess, absentMore, begun}
 use Rattle.worked_histories.proofs.Calls.{Comes, first, open-said, open-stands, waits, no-more, not-given, none-missing}
 use Rattle.worked_histories.proofs.Calls.{then-take, then-no-take, then-serve, then-drain, then-no-pass}
 use Rattle.worked_histories.proofs.worked_histories.Statement.{statement}
@@ -88,7 +88,7 @@ absentLessEvents =
 abbrev absentMoreEvents : List Event
 absentMoreEvents = took 0 (packetAt 0) ∷ took 2 (packetAt 2) ∷ gave 0 (packetAt 0) ∷ took 5 (packetAt 5) ∷ called-missing 1 ∷ gave 2 (packetAt 2) ∷ []
 
-late-less : Comes false (start lateLess) (lateLess .calls) (0 ∷ 29 ∷ 0 ∷ 0 ∷ 1 ∷ 23 ∷ 0 ∷ []) (session 1 3 0) lateLessEvents
+late-less : Comes false (begun lateLess) (lateLess .calls) (0 ∷ 29 ∷ 0 ∷ 0 ∷ 1 ∷ 23 ∷ 0 ∷ []) (session 1 3 0) lateLessEvents
 unfolding refuse_unless_else_ say heldAt someAmong someHeld pastEnd broken turn turns turnedAll serveRefusal drainRefusal
 late-less =
     then-serve (open-stands lateLess (size 0) (says .opens-1) (says .session-opened 1)) 1080 0 (answered (packet 0)) refl (λ a.
@@ -100,7 +100,7 @@ late-less =
     then-serve f 1080 0 (answered waiting) refl (λ g.
     no-more g refl)))))))
 
-late-more : Comes false (start lateMore) (lateMore .calls) (26 ∷ 0 ∷ 0 ∷ 31 ∷ 1 ∷ 0 ∷ 0 ∷ []) (session 2 3 0) lateMoreEvents
+late-more : Comes false (begun lateMore) (lateMore .calls) (26 ∷ 0 ∷ 0 ∷ 31 ∷ 1 ∷ 0 ∷ 0 ∷ []) (session 2 3 0) lateMoreEvents
 unfolding refuse_unless_else_ say heldAt someAmong someHeld pastEnd broken turn turns turnedAll serveRefusal drainRefusal passRefusal
 late-more =
     then-no-pass (open-stands lateMore (size 255) (says .opens-2) (says .session-opened 2)) 26 refl (λ a.
@@ -112,7 +112,7 @@ late-more =
     then-drain f 34560 7 32 (answered (packet 1 ∷ packet 2 ∷ [])) refl (λ g.
     no-more g refl)))))))
 
-absent-less : Comes false (start absentLess) (absentLess .calls) (0 ∷ 0 ∷ 0 ∷ 0 ∷ 0 ∷ 0 ∷ []) (session 1 6 0) absentLessEvents
+absent-less : Comes false (begun absentLess) (absentLess .calls) (0 ∷ 0 ∷ 0 ∷ 0 ∷ 0 ∷ 0 ∷ []) (session 1 6 0) absentLessEvents
 unfolding refuse_unless_else_ say heldAt someAmong someHeld pastEnd broken turn turns turnedAll serveRefusal drainRefusal
 absent-less =
     then-serve (open-stands absentLess (size 0) (says .opens-1) (says .session-opened 1)) 1080 0 (answered (packet 0)) refl (λ a.
@@ -123,7 +123,7 @@ absent-less =
     then-drain e 34560 0 32 (answered (missing 3 ∷ missing 4 ∷ packet 5 ∷ [])) refl (λ f.
     no-more f refl))))))
 
-absent-more : Comes false (start absentMore) (absentMore .calls) (0 ∷ 0 ∷ 0 ∷ 0 ∷ 0 ∷ 0 ∷ []) (session 3 3 32) absentMoreEvents
+absent-more : Comes false (begun absentMore) (absentMore .calls) (0 ∷ 0 ∷ 0 ∷ 0 ∷ 0 ∷ 0 ∷ []) (session 3 3 32) absentMoreEvents
 unfolding refuse_unless_else_ say heldAt someAmong someHeld pastEnd broken turn turns turnedAll serveRefusal drainRefusal
 absent-more =
     then-take (open-stands absentMore (size 255) (says .opens-3) (says .session-opened 3)) tt 2 (says .offer-2-to-3) (λ a.
