@@ -60,6 +60,19 @@ pub record Quiet (f : ℕ) (a : State) : Type 0 where
   pub free : heldAt (a .session .window) f ≡ false
   pub near : (q : ℕ) → heldAt (a .session .window) q ≡ true → f + a .session .threshold ≤ q → ⊥
 
+-- and no turn of it goes past f
+stays-below : (f : ℕ) (w : State) → w .session .window .next ≤ f → Quiet f w → oneTurn (w .session) .window .next ≤ f
+stays-below f w l quiet = go (turn (w .session)) (shows (w .session)) (decLt (w .session .window .next) f)
+  where
+    go : (t : Turn) → Shows (w .session) t → Dec (w .session .window .next < f) → turned (w .session) t .window .next ≤ f
+    go (packet n) (shows-packet h) (yes k) = omega arith
+    go (packet n) (shows-packet h) (no m) =
+        let e : w .session .window .next ≡ f = omega arith in
+        absurd (true≢false (sym h ∙ ap (heldAt (w .session .window)) e ∙ quiet .free))
+    go (missing n) (shows-missing h q k g) (yes i) = omega arith
+    go (missing n) (shows-missing h q k g) (no m) = absurd (quiet .near q k (omega arith))
+    go waiting (shows-waiting h n) d = l
+
 -- at the end
 pub nothing-lost : (f : ℕ) (a b : State) → Link f a b → NothingLost a b
 nothing-lost f a b lk = record { served = λ p c m. go p c (lk .served p c m); missing-too = lk .missing-too }
@@ -153,25 +166,10 @@ module _ (f : ℕ) (a b : State) (lk : Link f a b) where
       go (yes l) = absurd (true≢false (sym (lk .due (a .session .window .next) (omega arith) l .0) ∙ h))
       go (no n) = omega (arith, lk .next-a)
 
-  -- where a buffer with next at the frontier would wait, no turn of a moves past it
-  turn-below : Quiet f a → oneTurn (a .session) .window .next ≤ f
-  turn-below quiet = go (turn (a .session)) (shows (a .session))
-    where
-      go : (t : Turn) → Shows (a .session) t → turned (a .session) t .window .next ≤ f
-      go (packet n) (shows-packet h) = by (decLt (a .session .window .next) f)
-        where
-          by : Dec (a .session .window .next < f) → a .session .window .next + 1 ≤ f
-          by (yes l) = omega arith
-          by (no m) =
-              let e : a .session .window .next ≡ f = omega (arith, lk .next-a) in
-              absurd (true≢false (sym h ∙ ap (heldAt (a .session .window)) e ∙ quiet .free))
-      go (missing n) (shows-missing h q k l) = let e = at-frontier h in absurd (quiet .near q k (omega arith))
-      go waiting (shows-waiting h n) = lk .next-a
-
   pub turn-a-quiet : Quiet f a → Link f (afterTurn a) b × Quiet f (afterTurn a)
   unfolding afterTurn
   turn-a-quiet quiet =
-      let l = turn-below quiet in
+      let l = stays-below f a (lk .next-a) quiet in
       let s = a .session in (
         a-turns f (omega arith) l (inl (omega arith)),
         record {
@@ -192,28 +190,22 @@ missed s (missing n) (shows-missing h q k l) p e = let i : s .window .next ≡ p
 missed s waiting (shows-waiting h n) p e = let z : _≡_ {A = ℕ} 0 1 = cc in absurd (omega arith)
 
 module _ (f : ℕ) (a b : State) (lk : Link f a b) (quiet : Quiet f a) where
-  -- at the frontier b holds what a does, and its threshold is no lower, so no turn of b moves past it
-  b-below : (t : Turn) → Shows (b .session) t → turned (b .session) t .window .next ≤ f
-  b-below (packet n) (shows-packet h) = by (decLt (b .session .window .next) f)
-    where
-      by : Dec (b .session .window .next < f) → b .session .window .next + 1 ≤ f
-      by (yes l) = omega arith
-      by (no m) =
-          let e : b .session .window .next ≡ f = omega (arith, lk .next-b) in
-          absurd (true≢false (sym h ∙ ap (heldAt (b .session .window)) e ∙ sym (lk .above f (omega arith)) ∙ quiet .free))
-  b-below (missing n) (shows-missing h q k l) = by (decLt (b .session .window .next) f)
-    where
-      by : Dec (b .session .window .next < f) → b .session .window .next + 1 ≤ f
-      by (yes i) = omega arith
-      by (no m) =
-          absurd (quiet .near q (lk .above q (omega (arith, lk .next-b)) ∙ k) (omega (arith, lk .next-b, lk .alike .thresholds)))
-  b-below waiting (shows-waiting h n) = lk .next-b
+  -- from the frontier on b holds what a does, and its threshold is no lower
+  quiet-too : Quiet f b
+  quiet-too =
+      record {
+        free = sym (lk .above f (omega arith)) ∙ quiet .free;
+        near = λ q h l. quiet .near q (lk .above q (omega arith) ∙ h) (omega (arith, lk .alike .thresholds));
+      }
+
+  b-below : oneTurn (b .session) .window .next ≤ f
+  b-below = stays-below f b (lk .next-b) quiet-too
 
   -- what b calls missing it neither gave nor holds, so a has called it missing
   missing-a : (p : ℕ) → turn (b .session) ≡ missing p → CalledMissing a p
   missing-a p e =
       let m = missed (b .session) (turn (b .session)) (shows (b .session)) p e in
-      go (m .0) (m .1) (omega (arith, m .2, b-below (turn (b .session)) (shows (b .session)))) (decLt p (a .session .window .next))
+      go (m .0) (m .1) (omega (arith, m .2, b-below)) (decLt p (a .session .window .next))
     where
       never : (c : List ℕ) → b .session .window .next ≡ p → heldAt (b .session .window) p ≡ false → Has b p c → ⊥
       never c i h (inl m) = omega (arith, lk .buffer-b .before-next p c m)
@@ -230,7 +222,7 @@ module _ (f : ℕ) (a b : State) (lk : Link f a b) (quiet : Quiet f a) where
   turn-b =
       let s = b .session in
       let t = turn (b .session) in
-      let l = b-below t (shows s) in
+      let l = b-below in
       record {
         buffer-a = lk .buffer-a;
         buffer-b = buffer-turned b (lk .buffer-b);
