@@ -10,6 +10,7 @@ ghost use Rattle.position.specs.Rule.{Rule};
 pub const TOLERANCE: u32 = 3600;
 
 // Count and coarse time of the packet that has position 0.
+#[repr(C)]
 pub struct Anchor {
     pub count: u16,
     pub time: u32,

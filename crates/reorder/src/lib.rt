@@ -9,6 +9,7 @@ ghost use Rattle.reorder.specs.Session.{pastEnd, broken, withWindow};
 ghost use Rattle.reorder.specs.Offer.{said, placed, offerSaid, openOf, offerOf, noSession};
 
 // What a reorder buffer keeps between calls; the held bytes live in a store that the caller lends.
+#[repr(C)]
 pub struct Session {
     pub anchor: Anchor,
     pub sum_word: u16,

@@ -5,6 +5,7 @@ ghost use Rattle.numbers.specs.Bit.{clearBit};
 ghost use Rattle.window.specs.Window.{heldAt, someHeld, holding, Turned};
 
 // The next position to serve, and the marks: bit p mod 32 for position p.
+#[repr(C)]
 pub struct Window {
     pub next: u32,
     pub marks: u32,
