@@ -1,0 +1,5 @@
+pub mod Locals
+pub mod Params
+pub mod Handed
+pub mod Walk
+pub mod Comes

@@ -1,0 +1,69 @@
+// The reorder buffer's calls over one session record, lent to each call and updated there (document 01, "The rack").
+use reorder::OfferAnswer;
+use reorder::Session;
+use reorder_serve::PassAnswer;
+use reorder_serve::Report;
+use reorder_serve::ServeAnswer;
+ghost use mathlib.Core.Path.{_≡_};
+ghost use mathlib.Core.List.{[]};
+ghost use Prim.Native.Nat.{_+_};
+ghost use Rattle.reorder.specs.Offer.{said, openOf, offerOf};
+ghost use Rattle.reorder_serve.specs.Serve.{serveSaid, drainSaid, passSaid, serveOf, drainOf, descriptions, countSaid, passOf};
+ghost use Rattle.reorder_lent.specs.Lent.{ComesTo, counting};
+
+// Opens the session with this packet at position 0. A refused opening leaves the session as it came.
+pub fn open(
+    session: &mut Session,
+    store: &mut [u8],
+    packet: &[u8],
+    threshold: u32,
+    sum_word: u16,
+) -> OfferAnswer
+    ensures { λ r. ⌜ ComesTo (openOf (now (session .entry)) (now (store .entry)) (now (packet .entry)) threshold «sum_word»)
+        (now (session .entry)) (now (store .entry)) (said r) (now (session .exit)) (now (store .exit)) ⌝ }
+{
+    let opened = reorder::open_or(*session, store, packet, threshold, sum_word);
+    *session = opened.session;
+    opened.answer
+}
+
+// Holds the packet at its position, in the position's 1,080 bytes of the store.
+pub fn offer(session: &mut Session, store: &mut [u8], packet: &[u8]) -> OfferAnswer
+    ensures { λ r. ⌜ ComesTo (offerOf (now (session .entry)) (now (store .entry)) (now (packet .entry)))
+        (now (session .entry)) (now (store .entry)) (said r) (now (session .exit)) (now (store .exit)) ⌝ }
+{
+    let offered = reorder::offer(*session, store, packet);
+    *session = offered.session;
+    offered.answer
+}
+
+// Serves the next position.
+pub fn serve(session: &mut Session, out: &mut [u8], store: &[u8]) -> ServeAnswer
+    ensures { λ r. ⌜ ComesTo (serveOf (now (session .entry)) (now (out .entry)) (now (store .entry)))
+        (now (session .entry)) (now (out .entry)) (serveSaid r) (now (session .exit)) (now (out .exit)) ⌝ }
+{
+    let served = reorder_serve::serve(*session, out, store);
+    *session = served.session;
+    served.answer
+}
+
+// Serves until a serve waits or the budget is spent; the i-th answer is described, and where it is a packet its bytes stand at 1,080 i.
+pub fn drain(session: &mut Session, out: &mut [u8], store: &[u8], budget: u32) -> Report
+    ensures { λ r. ⌜ ComesTo (counting (drainOf (now (session .entry)) (now (out .entry)) (now (store .entry)) budget))
+        (now (session .entry)) (now (out .entry)) (drainSaid (r .answer)) (now (session .exit)) (now (out .exit))
+        × ((r .descriptions ≡ descriptions (drainOf (now (session .entry)) (now (out .entry)) (now (store .entry)) budget .said))
+        × (now (session .exit) .window .next ≡ now (session .entry) .window .next + countSaid (drainSaid (r .answer)))) ⌝ }
+{
+    let drained = reorder_serve::drain(*session, out, store, budget);
+    *session = drained.session;
+    drained.answer
+}
+
+// Passes next over, by hand.
+pub fn pass(session: &mut Session) -> PassAnswer
+    ensures { λ r. ⌜ ComesTo (passOf (now (session .entry))) (now (session .entry)) [] (passSaid r) (now (session .exit)) [] ⌝ }
+{
+    let passed = reorder_serve::pass(*session);
+    *session = passed.session;
+    passed.answer
+}
