@@ -4,12 +4,10 @@ use reorder::Session;
 use reorder_serve::PassAnswer;
 use reorder_serve::Report;
 use reorder_serve::ServeAnswer;
-ghost use mathlib.Core.Path.{_≡_};
 ghost use mathlib.Core.List.{[]};
-ghost use Prim.Native.Nat.{_+_};
 ghost use Rattle.reorder.specs.Offer.{said, openOf, offerOf};
-ghost use Rattle.reorder_serve.specs.Serve.{serveSaid, drainSaid, passSaid, serveOf, drainOf, descriptions, countSaid, passOf};
-ghost use Rattle.reorder_lent.specs.Lent.{ComesTo, counting};
+ghost use Rattle.reorder_serve.specs.Serve.{serveSaid, passSaid, serveOf, passOf};
+ghost use Rattle.reorder_lent.specs.Lent.{ComesTo, Drains};
 
 // Opens the session with this packet at position 0. A refused opening leaves the session as it came.
 pub fn open(
@@ -49,10 +47,8 @@ pub fn serve(session: &mut Session, out: &mut [u8], store: &[u8]) -> ServeAnswer
 
 // Serves until a serve waits or the budget is spent; the i-th answer is described, and where it is a packet its bytes stand at 1,080 i.
 pub fn drain(session: &mut Session, out: &mut [u8], store: &[u8], budget: u32) -> Report
-    ensures { λ r. ⌜ ComesTo (counting (drainOf (now (session .entry)) (now (out .entry)) (now (store .entry)) budget))
-        (now (session .entry)) (now (out .entry)) (drainSaid (r .answer)) (now (session .exit)) (now (out .exit))
-        × ((r .descriptions ≡ descriptions (drainOf (now (session .entry)) (now (out .entry)) (now (store .entry)) budget .said))
-        × (now (session .exit) .window .next ≡ now (session .entry) .window .next + countSaid (drainSaid (r .answer)))) ⌝ }
+    ensures { λ r. ⌜ Drains (now (session .entry)) (now (out .entry)) (now (store .entry)) budget
+        r (now (session .exit)) (now (out .exit)) ⌝ }
 {
     let drained = reorder_serve::drain(*session, out, store, budget);
     *session = drained.session;

@@ -8,7 +8,7 @@ use denote.Triple.Table.{entered, cited}
 use Prim.Native.Nat.{_+_}
 use Rattle.reorder_serve.specs.declared.Drained.{Drained}
 use Rattle.reorder_serve.specs.Serve.{drainSaid, drainOf, counted, descriptions, countSaid}
-use Rattle.reorder_lent.specs.Lent.{ComesTo, counting}
+use Rattle.reorder_lent.specs.Lent.{Drains}
 use Rattle.reorder_lent.proofs.Comes.{drain-keeps, comes}
 use Rattle.reorder_serve.proofs.Drained as R
 use Rattle.reorder_serve.proofs.Report as E
@@ -36,10 +36,13 @@ promises =
           × ((x .answer .descriptions ≡ descriptions (drainOf s (i .0) (i .1 .0) (i .1 .1 .0) .said))
           × ((x .session ≡ drainOf s (i .0) (i .1 .0) (i .1 .1 .0) .session)
           × ((z .0 ≡ drainOf s (i .0) (i .1 .0) (i .1 .1 .0) .bytes) × (x .session .window .next ≡ s .window .next + countSaid (drainSaid (x .answer .answer))))));
-      tells = λ s i y t z. ComesTo (counting (drainOf s (i .0) (i .1 .0) (i .1 .1 .0))) s (i .0) (drainSaid (y .answer)) t (z .0)
-          × ((y .descriptions ≡ descriptions (drainOf s (i .0) (i .1 .0) (i .1 .1 .0) .said))
-          × (t .window .next ≡ s .window .next + countSaid (drainSaid (y .answer))));
-      so = λ s i x z e. (comes (drain-keeps s (i .0) (i .1 .0) (i .1 .1 .0)) (e .0) (e .1 .1 .0) (e .1 .1 .1 .0), (e .1 .0, e .1 .1 .1 .1));
+      tells = λ s i y t z. Drains s (i .0) (i .1 .0) (i .1 .1 .0) y t (z .0);
+      so = λ s i x z e.
+          record {
+            comes = comes (drain-keeps s (i .0) (i .1 .0) (i .1 .1 .0)) (e .0) (e .1 .1 .0) (e .1 .1 .1 .0);
+            described = e .1 .0;
+            count = e .1 .1 .1 .1;
+          };
     }
 
 pub drain-spec : {M : Type 1} → stated.statement M
