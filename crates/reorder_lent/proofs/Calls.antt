@@ -1,0 +1,114 @@
+-- The five calls, as the walk takes them: what each returns, what it takes beside the session, and what it promises by value and over a lent session.
+use mathlib.Core.Path.{_≡_, refl}
+use mathlib.Core.List.{List, [], _∷_}
+use Prim.Native.Nat.{_+_}
+use mir.Syntax.{w8, w16, w32}
+use Rattle.reorder.specs.declared.Offered.{Offered}
+use Rattle.reorder.specs.Offer.{said, openOf, offerOf}
+use Rattle.reorder.proofs.Offered as Offered-type
+use Rattle.reorder.proofs.OfferAnswer as OfferAnswer-type
+use Rattle.reorder.proofs.OfferAnswer.Laws as OfferAnswer-laws
+use Rattle.reorder_serve.specs.declared.Served.{Served}
+use Rattle.reorder_serve.specs.declared.Drained.{Drained}
+use Rattle.reorder_serve.specs.declared.Passed.{Passed}
+use Rattle.reorder_serve.specs.Serve.{serveSaid, serveOf, drainSaid, drainOf, counted, descriptions, countSaid, passSaid, passOf}
+use Rattle.reorder_serve.proofs.Served as Served-type
+use Rattle.reorder_serve.proofs.ServeAnswer as ServeAnswer-type
+use Rattle.reorder_serve.proofs.ServeAnswer.Laws as ServeAnswer-laws
+use Rattle.reorder_serve.proofs.Drained as Drained-type
+use Rattle.reorder_serve.proofs.Report as Report-type
+use Rattle.reorder_serve.proofs.Report.Laws as Report-laws
+use Rattle.reorder_serve.proofs.Passed as Passed-type
+use Rattle.reorder_serve.proofs.PassAnswer as PassAnswer-type
+use Rattle.reorder_serve.proofs.PassAnswer.Laws as PassAnswer-laws
+use Rattle.reorder_lent.specs.Lent.{ComesTo, Drains}
+use Rattle.reorder_lent.proofs.Params.{Param, writes, reads, number}
+use Rattle.reorder_lent.proofs.Result.{Result, result}
+use Rattle.reorder_lent.proofs.Promises.{Promises}
+use Rattle.reorder_lent.proofs.Comes.{open-keeps, offer-keeps, serve-keeps, drain-keeps, pass-keeps, pass-bytes, comes}
+
+abbrev pub offered : Result
+offered =
+    result (Offered-type.struct .name) OfferAnswer-type.the-field OfferAnswer-laws.the-field-laws OfferAnswer-laws.the-field-plain OfferAnswer-laws.mir refl
+    Offered (λ x. x .answer) (λ x. x .session) (Offered-type.the-type .to-one)
+
+abbrev pub served : Result
+served =
+    result (Served-type.struct .name) ServeAnswer-type.the-field ServeAnswer-laws.the-field-laws ServeAnswer-laws.the-field-plain ServeAnswer-laws.mir refl
+    Served (λ x. x .answer) (λ x. x .session) (Served-type.the-type .to-one)
+
+abbrev pub drained : Result
+drained =
+    result (Drained-type.struct .name) Report-type.the-field Report-laws.the-field-laws Report-laws.the-field-plain Report-laws.mir refl
+    Drained (λ x. x .answer) (λ x. x .session) (Drained-type.the-type .to-one)
+
+abbrev pub passed : Result
+passed =
+    result (Passed-type.struct .name) PassAnswer-type.the-field PassAnswer-laws.the-field-laws PassAnswer-laws.the-field-plain PassAnswer-laws.mir refl
+    Passed (λ x. x .answer) (λ x. x .session) (Passed-type.the-type .to-one)
+
+-- a store to write and a packet to read, with numbers; an output to write and the store to read, with numbers; nothing
+abbrev pub open-takes : List Param
+open-takes = writes w8 ∷ reads w8 ∷ number w32 ∷ number w16 ∷ []
+
+abbrev pub offer-takes : List Param
+offer-takes = writes w8 ∷ reads w8 ∷ []
+
+abbrev pub serve-takes : List Param
+serve-takes = writes w8 ∷ reads w8 ∷ []
+
+abbrev pub drain-takes : List Param
+drain-takes = writes w8 ∷ reads w8 ∷ number w32 ∷ []
+
+abbrev pub pass-takes : List Param
+pass-takes = []
+
+abbrev pub open-promises : Promises offered open-takes
+open-promises =
+    record {
+      says = λ s i x z. let o = openOf s (i .0) (i .1 .0) (i .1 .1 .0) (i .1 .1 .1 .0) in (said (x .answer) ≡ o .said) × ((x .session ≡ o .session) × (z .0 ≡ o .bytes));
+      tells = λ s i y t z. ComesTo (openOf s (i .0) (i .1 .0) (i .1 .1 .0) (i .1 .1 .1 .0)) s (i .0) (said y) t (z .0);
+      so = λ s i x z e. comes (open-keeps s (i .0) (i .1 .0) (i .1 .1 .0) (i .1 .1 .1 .0)) (e .0) (e .1 .0) (e .1 .1);
+    }
+
+abbrev pub offer-promises : Promises offered offer-takes
+offer-promises =
+    record {
+      says = λ s i x z. let o = offerOf s (i .0) (i .1 .0) in (said (x .answer) ≡ o .said) × ((x .session ≡ o .session) × (z .0 ≡ o .bytes));
+      tells = λ s i y t z. ComesTo (offerOf s (i .0) (i .1 .0)) s (i .0) (said y) t (z .0);
+      so = λ s i x z e. comes (offer-keeps s (i .0) (i .1 .0)) (e .0) (e .1 .0) (e .1 .1);
+    }
+
+abbrev pub serve-promises : Promises served serve-takes
+serve-promises =
+    record {
+      says = λ s i x z. let o = serveOf s (i .0) (i .1 .0) in (serveSaid (x .answer) ≡ o .said) × ((x .session ≡ o .session) × (z .0 ≡ o .bytes));
+      tells = λ s i y t z. ComesTo (serveOf s (i .0) (i .1 .0)) s (i .0) (serveSaid y) t (z .0);
+      so = λ s i x z e. comes (serve-keeps s (i .0) (i .1 .0)) (e .0) (e .1 .0) (e .1 .1);
+    }
+
+abbrev pub drain-promises : Promises drained drain-takes
+drain-promises =
+    record {
+      says = λ s i x z.
+          let o = drainOf s (i .0) (i .1 .0) (i .1 .1 .0) in
+          (drainSaid (x .answer .answer) ≡ counted (o .said))
+          × ((x .answer .descriptions ≡ descriptions (o .said))
+          × ((x .session ≡ o .session)
+          × ((z .0 ≡ o .bytes) × (x .session .window .next ≡ s .window .next + countSaid (drainSaid (x .answer .answer))))));
+      tells = λ s i y t z. Drains s (i .0) (i .1 .0) (i .1 .1 .0) y t (z .0);
+      so = λ s i x z e.
+          record {
+            comes = comes (drain-keeps s (i .0) (i .1 .0) (i .1 .1 .0)) (e .0) (e .1 .1 .0) (e .1 .1 .1 .0);
+            described = e .1 .0;
+            count = e .1 .1 .1 .1;
+          };
+    }
+
+abbrev pub pass-promises : Promises passed pass-takes
+pass-promises =
+    record {
+      says = λ s i x z. (passSaid (x .answer) ≡ passOf s .said) × (x .session ≡ passOf s .session);
+      tells = λ s i y t z. ComesTo (passOf s) s [] (passSaid y) t [];
+      so = λ s i x z e. comes (pass-keeps s) (e .0) (e .1) (pass-bytes s);
+    }
