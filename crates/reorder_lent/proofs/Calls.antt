@@ -30,22 +30,22 @@ use Rattle.reorder_lent.proofs.Comes.{open-keeps, offer-keeps, serve-ke
 abbrev pub offered : Result
 offered =
     result (Offered-type.struct .name) OfferAnswer-type.the-field OfferAnswer-laws.the-field-laws OfferAnswer-laws.the-field-plain OfferAnswer-laws.mir refl
-    Offered (λ x. x .answer) (λ x. x .session) (Offered-type.the-type .to-one)
+    Offered (λ x. x .answer) (λ x. x .session) (λ y s. record { answer = y; session = s }) (λ y s. refl) (λ y s. refl) (Offered-type.the-type .to-one)
 
 abbrev pub served : Result
 served =
     result (Served-type.struct .name) ServeAnswer-type.the-field ServeAnswer-laws.the-field-laws ServeAnswer-laws.the-field-plain ServeAnswer-laws.mir refl
-    Served (λ x. x .answer) (λ x. x .session) (Served-type.the-type .to-one)
+    Served (λ x. x .answer) (λ x. x .session) (λ y s. record { answer = y; session = s }) (λ y s. refl) (λ y s. refl) (Served-type.the-type .to-one)
 
 abbrev pub drained : Result
 drained =
     result (Drained-type.struct .name) Report-type.the-field Report-laws.the-field-laws Report-laws.the-field-plain Report-laws.mir refl
-    Drained (λ x. x .answer) (λ x. x .session) (Drained-type.the-type .to-one)
+    Drained (λ x. x .answer) (λ x. x .session) (λ y s. record { answer = y; session = s }) (λ y s. refl) (λ y s. refl) (Drained-type.the-type .to-one)
 
 abbrev pub passed : Result
 passed =
     result (Passed-type.struct .name) PassAnswer-type.the-field PassAnswer-laws.the-field-laws PassAnswer-laws.the-field-plain PassAnswer-laws.mir refl
-    Passed (λ x. x .answer) (λ x. x .session) (Passed-type.the-type .to-one)
+    Passed (λ x. x .answer) (λ x. x .session) (λ y s. record { answer = y; session = s }) (λ y s. refl) (λ y s. refl) (Passed-type.the-type .to-one)
 
 -- a store to write and a packet to read, with numbers; an output to write and the store to read, with numbers; nothing
 abbrev pub open-takes : List Param

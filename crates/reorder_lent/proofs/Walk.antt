@@ -153,14 +153,14 @@ module _ (X : Result) (step : Name) (ps : List Param) where
           qed W (raw (toks 𝓤 A m κs qs) ∷ ‵ (owns (T.the-row ∷ typesAt (slots m 0 ps of′) κs) (h, c′) (mach h ∷ [], values m κs 0 ps of′ c′)) ∷ []) ∵
           join ! $ frame ! $ done !
 
-      leaves : (x : X .row .Denot) (ws : Lasts) → Said x ws → Fits n ks m κs 𝓤 H A W 1 ps of c (home ws) → Is (X .ans) (X .answer x) (X .ans-val x ∷ [])
+      leaves : (x : X .row .Denot) (ws : Lasts) → Said x ws → Fits n ks m κs 𝓤 H A W 1 ps of c (home ws) → Is (X .ans) (X .answer x) (X .ans-val (X .answer x) ∷ [])
           → ent 𝓤 (⋆ 𝓤 H A (‵ (fobs γ (T.the-row .coded .code (X .session x))) ∷ ‵ (fbor κ (Body (mem T.the-row) b o γ)) ∷ ‵ (flft κ q) ∷ raw (toks 𝓤 A m κs qs)
-          ∷ ‵ (Has n ks m κs 𝓤 H A W 1 ps of c (home ws)) ∷ [])) (Post (X .ans-val x))
+          ∷ ‵ (Has n ks m κs 𝓤 H A W 1 ps of c (home ws)) ∷ [])) (Post (X .ans-val (X .answer x)))
       leaves x ws e fits is =
           qed W (‵ (fobs γ (T.the-row .coded .code (X .session x))) ∷ ‵ (fbor κ (Body (mem T.the-row) b o γ)) ∷ ‵ (flft κ q) ∷ raw (toks 𝓤 A m κs qs)
           ∷ ‵ (Has n ks m κs 𝓤 H A W 1 ps of c (home ws)) ∷ []) ∵
           suffices ! _ (ends-at 𝓤 H A outer stayed (lent-clauses X ps P 𝓤) W ((ks, (q, qs), tt, (r, c), (vptr b o ∷ [], values n ks 1 ps of c)), tt)
-          (X .ans-val x) (X .answer x) (X .session x, home ws) (tt, fits)) $
+          (X .ans-val (X .answer x)) (X .answer x) (X .session x, home ws) (tt, fits)) $
           says ! (told x ws e) $ move ! (2 ∷ 3 ∷ []) $ join ! $ frame ! $
           feqI ! (List Val) (vptr b o ∷ []) (vptr b o ∷ []) refl $ fjoin3 ! $ fjoin ! $
           owned ! (X .ans) (Is (X .ans)) (X .ans-makes 𝓤 H A) (X .answer x) _ is $ move ! (1 ∷ 0 ∷ []) $ done !
@@ -227,7 +227,7 @@ module _ (X : Result) (step : Name) (ps : List Param) where
             land ! (found ! (x-at l₀ l₁ lₓ l₂ bs ts) (stop !)) (init ! 12 refl (X .typed 𝓤 H A W x w xis)) $ rewrite ! 12 (λ (u : Val). ‵ (fat fullShare x-ty lₓ 0 u)) (X .spelled x w xis) refl $
             assigns ! (of-opd ! (load ! (found ! (x-at l₀ l₁ lₓ l₂ bs ts) (fld ! refl (stop !))) (look-in ! 12 (sub ! 1 refl (whole !))))) (from ! (hop ! (look ! 15 refl) (stop !)))
             (store-raw ! 5 refl (LL.lawful T.the-type T′.the-laws 𝓤 H A W .typed (X .session x) _ (X .ses-is x w xis) .0)) $
-            assigns ! (of-opd ! (load ! (found ! (x-at l₀ l₁ lₓ l₂ bs ts) (fld ! refl (stop !))) (look-in ! 12 (sub ! 0 refl (whole !))))) (from ! (stop !)) (init ! 17 refl (X .ans-typed 𝓤 H A W x w xis)) $
+            assigns ! (of-opd ! (load ! (found ! (x-at l₀ l₁ lₓ l₂ bs ts) (fld ! refl (stop !))) (look-in ! 12 (sub ! 0 refl (whole !))))) (from ! (stop !)) (init ! 17 refl (X .ans-typed 𝓤 H A W (X .answer x) _ (X .ans-is x w xis))) $
             -- the borrow is closed at the new session
             owned ! T.the-row (Is T.the-row) (LL.makes T.the-type T′.the-plain 𝓤 H A) (X .session x) _ (X .ses-is x w xis) $
             move ! (6 ∷ 0 ∷ 7 ∷ 8 ∷ 9 ∷ []) $ closes ! tt T.the-row (X .session x) (mach (X .session x) ∷ []) b o $
