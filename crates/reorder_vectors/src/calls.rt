@@ -1,4 +1,4 @@
-// The calls, one line each.
+// The calls, one line each. Each but the opening by value goes by way of a lent session record to the call by value.
 use crate::build;
 use crate::cases;
 use crate::registers;
@@ -43,7 +43,7 @@ fn offered(answer: OfferAnswer) {
     }
 }
 
-// An opening by value or with the session, or an offer.
+// An opening by value or over the session, or an offer.
 fn call_with(
     row: u64,
     session: Session,
@@ -55,8 +55,8 @@ fn call_with(
     let sum_word = registers::sum_word(r);
     match cases::call(row) {
         1 => reorder::open(store, packet, threshold, sum_word),
-        2 => reorder::open_or(session, store, packet, threshold, sum_word),
-        _ => reorder::offer(session, store, packet),
+        2 => reorder_local::open(session, store, packet, threshold, sum_word),
+        _ => reorder_local::offer(session, store, packet),
     }
 }
 
@@ -83,7 +83,7 @@ fn served(answer: ServeAnswer) {
 }
 
 fn call_serve(session: Session, store: &[u8], out: &mut [u8]) -> Session {
-    let made = reorder_serve::serve(session, out, store);
+    let made = reorder_local::serve(session, out, store);
     let answer = made.answer;
     served(answer);
     made.session
@@ -120,7 +120,7 @@ fn drained(answer: DrainAnswer, all: [Description; 32]) {
 }
 
 fn call_drain(budget: u32, session: Session, store: &[u8], out: &mut [u8]) -> Session {
-    let made = reorder_serve::drain(session, out, store, budget);
+    let made = reorder_local::drain(session, out, store, budget);
     let report = made.answer;
     let answer = report.answer;
     let all = report.descriptions;
@@ -162,7 +162,7 @@ fn passed(answer: PassAnswer) {
 }
 
 fn call_pass(session: Session) -> Session {
-    let made = reorder_serve::pass(session);
+    let made = reorder_local::pass(session);
     let answer = made.answer;
     passed(answer);
     made.session
