@@ -8,6 +8,7 @@ ghost use mathlib.Core.List.{[]};
 ghost use Rattle.reorder.specs.Offer.{said, openOf, offerOf};
 ghost use Rattle.reorder_serve.specs.Serve.{serveSaid, passSaid, serveOf, passOf};
 ghost use Rattle.reorder_lent.specs.Lent.{ComesTo, Drains};
+ghost use Rattle.reorder_lent.specs.Layout.{SessionLayout};
 
 // Opens the session with this packet at position 0. A refused opening leaves the session as it came.
 pub fn open(
@@ -63,3 +64,8 @@ pub fn pass(session: &mut Session) -> PassAnswer
     *session = passed.session;
     passed.answer
 }
+
+// Where the fields of the session record lie.
+pub fn session_layout()
+    ensures { λ _. ⌜ SessionLayout ⌝ }
+{}
