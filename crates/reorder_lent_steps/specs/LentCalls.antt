@@ -83,6 +83,8 @@ abbrev pub LentConsumer : Consumer → List ℕ → ℕ → State → Type 0
 LentConsumer c b word u = (v : State) × LentOpen (c .before) (c .store) b (c .threshold) word v × LentCalls v (c .calls) u
 
 pub record LentHistoriesLoseNothing : Type 0 where
+  -- any list of calls can be so made
+  pub can-be-made : (w : State) (cs : List Call) → LentCalls w cs (run w cs)
   pub is-start : (s : Session) (store b : List ℕ) (threshold word : ℕ) (u : State) → LentOpen s store b threshold word u
       → u ≡ start (openOf s store b threshold word) b
   pub is-step : (w u : State) (c : Call) → LentCall w c u → u ≡ step w c

@@ -1,0 +1,115 @@
+-- Any list of calls can be made over a lent session: what a call says is said by some answer, and the rest is as it promises.
+use Prim.Native.Nat.{ℕ, zero, suc, _+_}
+use mathlib.Core.Path.{_≡_, refl, sym, ap, _∙_}
+use mathlib.Core.List.{List, [], _∷_, _++_}
+use native.Mathlib.Omega.{arith}
+use lib.ListN.{length}
+use Rattle.octets.specs.Refusal.{Said, refused, answered, say}
+use Rattle.reorder.specs.declared.Session.{Session}
+use Rattle.reorder.specs.declared.OfferAnswer.{OfferAnswer}
+use Rattle.reorder.specs.declared.OfferAnswer.the-variants as Of
+use Rattle.reorder.specs.Outcome.{outcome}
+use Rattle.reorder.specs.Offer.{said, offerOf}
+use Rattle.reorder_serve.specs.declared.ServeAnswer.{ServeAnswer}
+use Rattle.reorder_serve.specs.declared.ServeAnswer.the-variants as Sv
+use Rattle.reorder_serve.specs.declared.DrainAnswer.{DrainAnswer}
+use Rattle.reorder_serve.specs.declared.DrainAnswer.the-variants as Dr
+use Rattle.reorder_serve.specs.declared.PassAnswer.{PassAnswer}
+use Rattle.reorder_serve.specs.declared.PassAnswer.the-variants as Ps
+use Rattle.reorder_serve.specs.declared.Report.{Report}
+use Rattle.reorder_serve.specs.Turn.{Turn, packet, missing, waiting, turns, turnedAll, shownAll}
+use Rattle.reorder_serve.specs.Serve.{serveSaid, serveOf, drainSaid, drainRefusal, drainOf, counted, descriptions, countSaid, passSaid, passOf}
+use Rattle.reorder_serve.proofs.Turns.{counted-next}
+use Rattle.reorder_histories.specs.Histories.{Call, offer, serve, drain, pass, offerTells, serveTells, drainTells, passTells, State, step, run}
+use Rattle.reorder_steps.proofs.Steps.{reads-back}
+use Rattle.reorder_lent.specs.Lent.{Drains}
+use Rattle.reorder_lent.proofs.Comes.{offer-keeps, serve-keeps, drain-keeps, pass-keeps, pass-bytes, comes}
+use Rattle.reorder_lent_steps.specs.LentCalls.{LentCall, LentCalls}
+
+-- ---- what is said is said by an answer
+
+offer-says : (x : Said ℕ) → (r : OfferAnswer) × (said r ≡ x)
+offer-says (refused n) = (Of.Refused n, refl)
+offer-says (answered p) = (Of.Held p, refl)
+
+serve-says : (x : Said Turn) → (r : ServeAnswer) × (serveSaid r ≡ x)
+serve-says (refused n) = (Sv.Refused n, refl)
+serve-says (answered (packet p)) = (Sv.Packet p, refl)
+serve-says (answered (missing p)) = (Sv.Missing p, refl)
+serve-says (answered waiting) = (Sv.Waiting, refl)
+
+drain-says : (x : Said ℕ) → (r : DrainAnswer) × (drainSaid r ≡ x)
+drain-says (refused n) = (Dr.Refused n, refl)
+drain-says (answered n) = (Dr.Count n, refl)
+
+pass-says : (x : Said ℕ) → (r : PassAnswer) × (passSaid r ≡ x)
+pass-says (refused n) = (Ps.Refused n, refl)
+pass-says (answered p) = (Ps.Missing p, refl)
+
+-- ---- a drain's count
+
+count-is-next : (n budget : ℕ) (s : Session) (out store : List ℕ)
+    → outcome (say n (turns budget s)) s out (turnedAll s) (shownAll 0 store out) .session .window .next
+    ≡ s .window .next + countSaid (counted (outcome (say n (turns budget s)) s out (turnedAll s) (shownAll 0 store out) .said))
+unfolding say
+count-is-next zero budget s out store = counted-next budget s
+count-is-next (suc n) budget s out store = omega arith
+
+drains : (s : Session) (out store : List ℕ) (budget : ℕ) (r : Report) → drainSaid (r .answer) ≡ counted (drainOf s out store budget .said)
+    → r .descriptions ≡ descriptions (drainOf s out store budget .said)
+    → Drains s out store budget r (drainOf s out store budget .session) (drainOf s out store budget .bytes)
+unfolding drainOf
+drains s out store budget r e f =
+    record {
+      comes = comes (drain-keeps s out store budget) e refl refl;
+      described = f;
+      count = count-is-next (drainRefusal s (length store) (length out) budget) budget s out store
+          ∙ ap (λ (x : Said ℕ). s .window .next + countSaid x) (sym e);
+    }
+
+-- ---- the calls
+
+can-call : (w : State) (c : Call) → LentCall w c (step w c)
+unfolding step
+can-call w (offer b) =
+    let o = offerOf (w .session) (w .store) b in
+    let (r, e) = offer-says (o .said) in
+    record {
+      answer = r;
+      promised = comes (offer-keeps (w .session) (w .store) b) e refl refl;
+      told = ap (λ (x : Said ℕ). w .events ++ offerTells x b) (sym e);
+    }
+can-call w (serve out) =
+    let o = serveOf (w .session) out (w .store) in
+    let (r, e) = serve-says (o .said) in
+    record {
+      answer = r;
+      output = o .bytes;
+      promised = comes (serve-keeps (w .session) out (w .store)) e refl refl;
+      same-store = refl;
+      told = ap (λ (x : Said Turn). w .events ++ serveTells x (o .bytes)) (sym e);
+    }
+can-call w (drain out budget) =
+    let o = drainOf (w .session) out (w .store) budget in
+    let (n, e) = drain-says (counted (o .said)) in
+    let r : Report = record { answer = n; descriptions = descriptions (o .said) } in
+    record {
+      report = r;
+      output = o .bytes;
+      promised = drains (w .session) out (w .store) budget r e refl;
+      same-store = refl;
+      told = ap (λ (x : Said (List Turn)). w .events ++ drainTells x (o .bytes)) (sym (reads-back r (o .said) e refl));
+    }
+can-call w pass =
+    let (r, e) = pass-says (passOf (w .session) .said) in
+    record {
+      answer = r;
+      promised = comes (pass-keeps (w .session)) e refl (pass-bytes (w .session));
+      same-store = refl;
+      told = ap (λ (x : Said ℕ). w .events ++ passTells x) (sym e);
+    }
+
+pub can-be-made : (w : State) (cs : List Call) → LentCalls w cs (run w cs)
+unfolding LentCalls run
+can-be-made w [] = refl
+can-be-made w (c ∷ cs) = (step w c, can-call w c, can-be-made (step w c) cs)
