@@ -13,10 +13,13 @@ use mir.Syntax.{Name, Ty, named, tyRef, tyStruct, tcons, tnil, mut, deref, field
 use mir.Val.{Val, vptr}
 use base.Logic.{SProp, ent, id⊢, emp, via, fst∗}
 use base.Fml.{Lft, Share, GName, fat, flft, fobs, fbor}
-use prog.Wp.{Heap, Calls, Loops, WpFn, Tables, noLocal}
+use prog.Wp.{Heap, Calls, Loops, WpFn, Closed, Tables, noLocal}
+use prog.Model.{Model}
+use prog.Routine.{Routine, Env}
 use ghost.Atoms.{Atoms}
 use contract.Monad.{fact}
 use contract.Lifetimes.{Lfts, Shares, toks}
+use contract.Running.{Running, tables, tablesOf}
 use types.Kit.{Given, ‵, raw, some, given, later, _⊛_, ⋆, _$_, _∵_, !, qed, by, move, keep, drop, use1, use2, split, join, pick, learn, rewrite, fsplit, fsplit3, fjoin, fjoin3, feqI, suffices, frame, await, done}
 use types.Run.{look, look-raw, init, store-raw, forget, stop, hop, fld, from, load, of-opd, and-then, assigns, land, returns, enter, alloc1, alloc0, params1, pass1, free1, free0}
 use types.Part.{whole, sub, look-in}
@@ -36,6 +39,7 @@ use denote.Triple.End.{all, outs}
 use denote.Triple.Spec.{Meets}
 use denote.Triple.Statement.{Triple}
 use denote.Triple.Call.{calls-at}
+use denote.Triple.Table.{entered, cited}
 use denote.Triple.Clauses.{Ended, closing, ensured, lasts}
 use denote.Triple.Walked.{says, Stays, stay-ref, walkOf, goes-ref, Walks, ends-at, walked, walk-meets}
 use Rattle.reorder.specs.declared.Session.{Session}
@@ -45,7 +49,7 @@ use Rattle.reorder_lent.proofs.Locals.{Spots, env, past, Located, after
 use Rattle.reorder_lent.proofs.Params.{Param, lives, slots, locals, temps, lend, operands, In, Out, Args, Last, entry, exit, spells, tells, values, passed, Meant, lent}
 use Rattle.reorder_lent.proofs.Handed.{typed-passed, typed-lent, lends, hand, same-entry, back, exits, same-exit, operands-all, kept, hands, stays, goes, Fits, Has, comes-back}
 use Rattle.reorder_lent.proofs.Result.{Result, mach}
-use Rattle.reorder_lent.proofs.Promises.{Promises, theirs, all-of, value-ended, lent-ended, value-clauses, lent-clauses, Value}
+use Rattle.reorder_lent.proofs.Promises.{Promises, theirs, all-of, value-ended, lent-ended, value-clauses, lent-clauses, Value, Lent}
 
 module _ (X : Result) (step : Name) (ps : List Param) where
   -- ---- the code
@@ -247,8 +251,17 @@ module _ (X : Result) (step : Name) (ps : List Param) where
           (λ κs qs bounds a g are. via 𝓤 _ (fst∗ 𝓤 _ (emp 𝓤))
           (walk 𝓤 H A W (κs .0) (κs .1) (qs .0) (qs .1) (a .0 .ptr .0) (a .0 .ptr .1) (a .0 .name) (a .0 .now) (a .1) C Λ fm known (are .1)))
 
-      pub meets : (𝓣 : Tables 𝓤 H) → Triple 𝓤 (𝓣 .C step) (Value X ps P 𝓤 H A)
+      meets : (𝓣 : Tables 𝓤 H) → Triple 𝓤 (𝓣 .C step) (Value X ps P 𝓤 H A)
           → Meets 𝓤 H A (outer .signature) (WpFn 𝓤 H (𝓣 .C) (𝓣 .Λ) function) (closing 𝓤 H A outer (lent-clauses X ps P 𝓤))
       meets 𝓣 known =
           walk-meets 𝓤 H A outer stayed W (goes-ref 𝓤 H A W n 0 tt (plain (λ _. T.the-row)), goes n 𝓤 H A W 1 ps of) (lent-clauses X ps P 𝓤)
           (WpFn 𝓤 H (𝓣 .C) (𝓣 .Λ) function) (WpFn-mono 𝓤 H (W .laws) 𝓣 function) (walks (𝓣 .C) (𝓣 .Λ) (fmOf 𝓤 H (W .laws) 𝓣) known)
+
+      -- the function's own statement, over the environment γ in which the call means the routine r
+      module _ (𝓜 : Model 𝓤 H) (𝓡 : Running 𝓤 H 𝓜) (γ : Env) (k : Name) where
+        pub stated : Closed 𝓤 H (tables 𝓤 H 𝓜 𝓡 γ .C) (tables 𝓤 H 𝓜 𝓡 γ .Λ) k function → (r : Routine) → γ step ≡ r
+            → Triple 𝓤 (𝓡 .run r) (Value X ps P 𝓤 H A) → Triple 𝓤 (𝓡 .run (γ k)) (Lent X ps P 𝓤 H A)
+        unfolding tablesOf
+        stated closed r is t =
+            entered 𝓤 H (Lent X ps P 𝓤 H A) (tables 𝓤 H 𝓜 𝓡 γ .C) (tables 𝓤 H 𝓜 𝓡 γ .Λ) k function closed
+            (meets (tablesOf 𝓤 H 𝓜 (tables 𝓤 H 𝓜 𝓡 γ)) (cited 𝓤 H (Value X ps P 𝓤 H A) 𝓜 𝓡 γ step r is t))

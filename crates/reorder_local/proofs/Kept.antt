@@ -12,10 +12,13 @@ use mir.Syntax.{Name, Ty, named, erased, tyRef, tyStruct, tcons, tnil, mut, plac
 use mir.Val.{Val, vptr, vstruct, vcons, vnil}
 use base.Logic.{SProp, ent, sep, guard, id⊢, emp, via, fst∗}
 use base.Fml.{Lft, GName, fat, flft, flent, fsep}
-use prog.Wp.{Heap, Calls, Loops, WpFn, Tables, noLocal}
+use prog.Wp.{Heap, Calls, Loops, WpFn, Closed, Tables, noLocal}
+use prog.Model.{Model}
+use prog.Routine.{Routine, Env}
 use ghost.Atoms.{Atoms, sem}
 use contract.Monad.{fact}
 use contract.Lifetimes.{Lfts, Shares, toks}
+use contract.Running.{Running, tables, tablesOf}
 use types.Kit.{Given, ‵, raw, some, given, later, _⊛_, ⋆, _$_, _∵_, !, qed, by, move, keep, drop, use1, use2, use3, split, join, pick, learn, rewrite, check, fsplit, fjoin, fpick, fpack, suffices, frame, await, done}
 use types.Run.{look, init, forget, stop, from, load, addr, of-opd, and-then, no-more, assigns, land, returns, enter, alloc1, alloc0, params1, pass1, free1, free0}
 use types.Part.{agg}
@@ -34,9 +37,10 @@ use denote.Exit.{yes}
 use denote.Signature.{typesAt}
 use denote.Triple.Entry.{onEntry}
 use denote.Triple.End.{all, outs}
-use denote.Triple.Spec.{Meets}
+use denote.Triple.Spec.{Meets, tripleOf}
 use denote.Triple.Statement.{Triple}
 use denote.Triple.Call.{calls-at}
+use denote.Triple.Table.{entered, cited}
 use denote.Triple.Clauses.{Ended, Clauses, closing, ensured, lasts}
 use denote.Triple.Walked.{says, Stays, stay-none, walkOf, goes-none, Walks, ends-at, walked, walk-meets}
 use Rattle.reorder.specs.declared.Session.{Session}
@@ -299,8 +303,17 @@ module _ (X : Result) (call-key : Name) (ps : List Param) where
           (λ κs. (LL.vals T.the-type T′.the-laws, spells n κs 0 ps of)) (λ κs. (LL.tells T.the-type T′.the-laws, tells n κs 0 ps of))
           (λ κs qs bounds a g are. via 𝓤 _ (fst∗ 𝓤 _ (emp 𝓤)) (walk 𝓤 H A W κs qs (a .0) (a .1) C Λ fm known (are .0) (are .1)))
 
-      pub meets : (𝓣 : Tables 𝓤 H) → Triple 𝓤 (𝓣 .C call-key) (Lent X ps P 𝓤 H A)
+      meets : (𝓣 : Tables 𝓤 H) → Triple 𝓤 (𝓣 .C call-key) (Lent X ps P 𝓤 H A)
           → Meets 𝓤 H A (outer .signature) (WpFn 𝓤 H (𝓣 .C) (𝓣 .Λ) function) (closing 𝓤 H A outer (clauses 𝓤))
       meets 𝓣 known =
           walk-meets 𝓤 H A outer stayed W (goes-none 𝓤 H A W n (λ _. T.the-row) yes (λ κs x f. refl), goes n 𝓤 H A W 0 ps of) (clauses 𝓤)
           (WpFn 𝓤 H (𝓣 .C) (𝓣 .Λ) function) (WpFn-mono 𝓤 H (W .laws) 𝓣 function) (walks (𝓣 .C) (𝓣 .Λ) (fmOf 𝓤 H (W .laws) 𝓣) known)
+
+      -- the function's own statement, over the environment γ in which the call means the routine r
+      module _ (𝓜 : Model 𝓤 H) (𝓡 : Running 𝓤 H 𝓜) (γ : Env) (k : Name) where
+        pub stated : Closed 𝓤 H (tables 𝓤 H 𝓜 𝓡 γ .C) (tables 𝓤 H 𝓜 𝓡 γ .Λ) k function → (r : Routine) → γ call-key ≡ r
+            → Triple 𝓤 (𝓡 .run r) (Lent X ps P 𝓤 H A) → Triple 𝓤 (𝓡 .run (γ k)) (tripleOf 𝓤 H A (outer .signature) (closing 𝓤 H A outer (clauses 𝓤)))
+        unfolding tablesOf
+        stated closed r is t =
+            entered 𝓤 H (tripleOf 𝓤 H A (outer .signature) (closing 𝓤 H A outer (clauses 𝓤))) (tables 𝓤 H 𝓜 𝓡 γ .C) (tables 𝓤 H 𝓜 𝓡 γ .Λ) k function closed
+            (meets (tablesOf 𝓤 H 𝓜 (tables 𝓤 H 𝓜 𝓡 γ)) (cited 𝓤 H (Lent X ps P 𝓤 H A) 𝓜 𝓡 γ call-key r is t))
