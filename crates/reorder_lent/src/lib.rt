@@ -56,7 +56,7 @@ pub fn drain(session: &mut Session, out: &mut [u8], store: &[u8], budget: u32) -
     drained.answer
 }
 
-// Passes next over, by hand.
+// Passes next over, by hand. It is lent no bytes.
 pub fn pass(session: &mut Session) -> PassAnswer
     ensures { λ r. ⌜ ComesTo (passOf (now (session .entry))) (now (session .entry)) [] (passSaid r) (now (session .exit)) [] ⌝ }
 {

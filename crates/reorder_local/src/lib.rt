@@ -50,7 +50,7 @@ pub fn drain(mut session: Session, out: &mut [u8], store: &[u8], budget: u32) ->
     Drained { answer, session }
 }
 
-// Passes next over, by hand.
+// Passes next over, by hand. It is lent no bytes.
 pub fn pass(mut session: Session) -> Passed
     ensures { λ r. ⌜ ComesTo (passOf session) session [] (passSaid (r .answer)) (r .session) [] ⌝ }
 {
