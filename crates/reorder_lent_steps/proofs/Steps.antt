@@ -19,12 +19,12 @@ is-state e f g = λ i. record { session = e i; store = f i; events = g i }
 after : {l : List Event} (w : State) {told tells : List Event} → l ≡ w .events ++ told → told ≡ tells → l ≡ w .events ++ tells
 after w e f = e ∙ ap (λ (k : List Event). w .events ++ k) f
 
-is-start : (s : Session) (store b : List ℕ) (threshold word : ℕ) (u : State) → LentOpen s store b threshold word u
+pub is-start : (s : Session) (store b : List ℕ) (threshold word : ℕ) (u : State) → LentOpen s store b threshold word u
     → u ≡ start (openOf s store b threshold word) b
 is-start s store b threshold word u c =
     is-state (c .promised .session) (c .promised .bytes) (c .told ∙ ap (λ (x : Said ℕ). offerTells x b) (c .promised .answer))
 
-is-step : (w u : State) (c : Call) → LentCall w c u → u ≡ step w c
+pub is-step : (w u : State) (c : Call) → LentCall w c u → u ≡ step w c
 unfolding step
 is-step w u (offer b) c =
     is-state (c .promised .session) (c .promised .bytes) (after w (c .told) (ap (λ (x : Said ℕ). offerTells x b) (c .promised .answer)))

@@ -5,13 +5,14 @@ use mathlib.Core.Path.{_≡_}
 use mathlib.Core.List.{List, [], _∷_, _++_}
 use Rattle.reorder.specs.declared.Session.{Session}
 use Rattle.reorder.specs.declared.OfferAnswer.{OfferAnswer}
-use Rattle.reorder.specs.Offer.{said, openOf, offerOf}
+use Rattle.reorder.specs.Offer.{said, openOf, offerOf, noSession}
 use Rattle.reorder_serve.specs.declared.ServeAnswer.{ServeAnswer}
 use Rattle.reorder_serve.specs.declared.PassAnswer.{PassAnswer}
 use Rattle.reorder_serve.specs.declared.Report.{Report}
 use Rattle.reorder_serve.specs.Serve.{serveSaid, serveOf, passSaid, passOf}
 use Rattle.reorder_histories.specs.Histories.{
   Call,
+  Event,
   offer,
   serve,
   drain,
@@ -28,7 +29,7 @@ use Rattle.reorder_histories.specs.Histories.{
   OpenedAlike,
   NothingLost,
 }
-use Rattle.reorder_steps.specs.Steps.{reported}
+use Rattle.reorder_steps.specs.Steps.{reported, Short}
 use Rattle.reorder_lent.specs.Lent.{ComesTo, Drains}
 
 -- ---- one call
@@ -91,3 +92,14 @@ pub record LentHistoriesLoseNothing : Type 0 where
   pub are-runs : (w u : State) (cs : List Call) → LentCalls w cs u → u ≡ run w cs
   pub lose-nothing : (less more : Consumer) (b : List ℕ) (word : ℕ) (u v : State) → OpenedAlike less more b word
       → LentConsumer less b word u → LentConsumer more b word v → NothingLost u v
+
+-- ---- a short history in code
+
+-- an opening with the packet first, an offer of b and a drain of 32 into out, over one session record: what is reported, the session, the store and the output then
+pub record LentShort (store out first b : List ℕ) (threshold word : ℕ) (report : Report) (t : Session) (c o : List ℕ) : Type 0 where
+  pub comes : Short store out first b threshold word report t c o
+  -- and it is made by calls over a lent session
+  pub opening : State
+  pub opened : LentOpen noSession store first threshold word opening
+  pub events : List Event
+  pub called : LentCalls opening (offer b ∷ drain out 32 ∷ []) (record { session = t; store = c; events = events })
