@@ -21,11 +21,11 @@ use Rattle.reorder_serve.proofs.Report.Laws as Report-laws
 use Rattle.reorder_serve.proofs.Passed as Passed-type
 use Rattle.reorder_serve.proofs.PassAnswer as PassAnswer-type
 use Rattle.reorder_serve.proofs.PassAnswer.Laws as PassAnswer-laws
-use Rattle.reorder_lent.specs.Lent.{ComesTo, Drains}
+use Rattle.reorder_lent.specs.Lent.{Opens, Offers, Serves, Drains, Passes}
 use Rattle.reorder_lent.proofs.Params.{Param, writes, reads, number}
 use Rattle.reorder_lent.proofs.Result.{Result, result}
 use Rattle.reorder_lent.proofs.Promises.{Promises}
-use Rattle.reorder_lent.proofs.Comes.{open-keeps, offer-keeps, serve-keeps, drain-keeps, pass-keeps, pass-bytes, comes}
+use Rattle.reorder_lent.proofs.Comes.{open-refusal, offer-refusal, serve-refusal, drain-refusal, pass-refusal, pass-bytes, comes}
 
 abbrev pub offered : Result
 offered =
@@ -67,24 +67,24 @@ abbrev pub open-promises : Promises offered open-takes
 open-promises =
     record {
       says = λ s i x z. let o = openOf s (i .0) (i .1 .0) (i .1 .1 .0) (i .1 .1 .1 .0) in (said (x .answer) ≡ o .said) × ((x .session ≡ o .session) × (z .0 ≡ o .bytes));
-      tells = λ s i y t z. ComesTo (openOf s (i .0) (i .1 .0) (i .1 .1 .0) (i .1 .1 .1 .0)) s (i .0) (said y) t (z .0);
-      so = λ s i x z e. comes (open-keeps s (i .0) (i .1 .0) (i .1 .1 .0) (i .1 .1 .1 .0)) (e .0) (e .1 .0) (e .1 .1);
+      tells = λ s i y t z. Opens s (i .0) (i .1 .0) (i .1 .1 .0) (i .1 .1 .1 .0) y t (z .0);
+      so = λ s i x z e. comes (open-refusal s (i .0) (i .1 .0) (i .1 .1 .0) (i .1 .1 .1 .0)) (e .0) (e .1 .0) (e .1 .1);
     }
 
 abbrev pub offer-promises : Promises offered offer-takes
 offer-promises =
     record {
       says = λ s i x z. let o = offerOf s (i .0) (i .1 .0) in (said (x .answer) ≡ o .said) × ((x .session ≡ o .session) × (z .0 ≡ o .bytes));
-      tells = λ s i y t z. ComesTo (offerOf s (i .0) (i .1 .0)) s (i .0) (said y) t (z .0);
-      so = λ s i x z e. comes (offer-keeps s (i .0) (i .1 .0)) (e .0) (e .1 .0) (e .1 .1);
+      tells = λ s i y t z. Offers s (i .0) (i .1 .0) y t (z .0);
+      so = λ s i x z e. comes (offer-refusal s (i .0) (i .1 .0)) (e .0) (e .1 .0) (e .1 .1);
     }
 
 abbrev pub serve-promises : Promises served serve-takes
 serve-promises =
     record {
       says = λ s i x z. let o = serveOf s (i .0) (i .1 .0) in (serveSaid (x .answer) ≡ o .said) × ((x .session ≡ o .session) × (z .0 ≡ o .bytes));
-      tells = λ s i y t z. ComesTo (serveOf s (i .0) (i .1 .0)) s (i .0) (serveSaid y) t (z .0);
-      so = λ s i x z e. comes (serve-keeps s (i .0) (i .1 .0)) (e .0) (e .1 .0) (e .1 .1);
+      tells = λ s i y t z. Serves s (i .0) (i .1 .0) y t (z .0);
+      so = λ s i x z e. comes (serve-refusal s (i .0) (i .1 .0)) (e .0) (e .1 .0) (e .1 .1);
     }
 
 abbrev pub drain-promises : Promises drained drain-takes
@@ -99,7 +99,7 @@ drain-promises =
       tells = λ s i y t z. Drains s (i .0) (i .1 .0) (i .1 .1 .0) y t (z .0);
       so = λ s i x z e.
           record {
-            comes = comes (drain-keeps s (i .0) (i .1 .0) (i .1 .1 .0)) (e .0) (e .1 .1 .0) (e .1 .1 .1 .0);
+            comes = comes (drain-refusal s (i .0) (i .1 .0) (i .1 .1 .0)) (e .0) (e .1 .1 .0) (e .1 .1 .1 .0);
             described = e .1 .0;
             count = e .1 .1 .1 .1;
           };
@@ -109,6 +109,6 @@ abbrev pub pass-promises : Promises passed pass-takes
 pass-promises =
     record {
       says = λ s i x z. (passSaid (x .answer) ≡ passOf s .said) × (x .session ≡ passOf s .session);
-      tells = λ s i y t z. ComesTo (passOf s) s [] (passSaid y) t [];
-      so = λ s i x z e. comes (pass-keeps s) (e .0) (e .1) (pass-bytes s);
+      tells = λ s i y t z. Passes s y t;
+      so = λ s i x z e. comes (pass-refusal s) (e .0) (e .1) (pass-bytes s);
     }

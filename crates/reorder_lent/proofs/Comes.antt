@@ -20,41 +20,41 @@ Refused (refused n) = Unit {0}
 Refused (answered a) = ⊥
 
 -- a refusal leaves the session s and the bytes b
-abbrev pub Keeps : {A : Type 0} → Outcome A → Session → List ℕ → Type 0
-Keeps o s b = (n : ℕ) → o .said ≡ refused n → (o .session ≡ s) × (o .bytes ≡ b)
+abbrev pub RefusalLeaves : {A : Type 0} → Outcome A → Session → List ℕ → Type 0
+RefusalLeaves o s b = (n : ℕ) → o .said ≡ refused n → (o .session ≡ s) × (o .bytes ≡ b)
 
-outcome-keeps : {A : Type 0} (x : Said A) (s : Session) (b : List ℕ) (f : A → Session) (g : A → List ℕ) → Keeps (outcome x s b f g) s b
-outcome-keeps (refused m) s b f g n e = (refl, refl)
-outcome-keeps {A} (answered a) s b f g n e = absurd (subst (λ (x : Said A). Refused x) (sym e) tt)
+outcome-refusal : {A : Type 0} (x : Said A) (s : Session) (b : List ℕ) (f : A → Session) (g : A → List ℕ) → RefusalLeaves (outcome x s b f g) s b
+outcome-refusal (refused m) s b f g n e = (refl, refl)
+outcome-refusal {A} (answered a) s b f g n e = absurd (subst (λ (x : Said A). Refused x) (sym e) tt)
 
-pub open-keeps : (s : Session) (b p : List ℕ) (h w : ℕ) → Keeps (openOf s b p h w) s b
+pub open-refusal : (s : Session) (b p : List ℕ) (h w : ℕ) → RefusalLeaves (openOf s b p h w) s b
 unfolding openOf
-open-keeps s b p h w = outcome-keeps (openSaid (length b) p h w) s b (λ q. opened (fieldsOf p) h w) (λ q. put b (slotStart q) p)
+open-refusal s b p h w = outcome-refusal (openSaid (length b) p h w) s b (λ q. opened (fieldsOf p) h w) (λ q. put b (slotStart q) p)
 
-pub offer-keeps : (s : Session) (b p : List ℕ) → Keeps (offerOf s b p) s b
+pub offer-refusal : (s : Session) (b p : List ℕ) → RefusalLeaves (offerOf s b p) s b
 unfolding offerOf
-offer-keeps s b p =
-    outcome-keeps (offerSaid s (length b) p) s b (λ q. withWindow s (holding (s .window) q)) (λ q. put b (slotStart q) p)
+offer-refusal s b p =
+    outcome-refusal (offerSaid s (length b) p) s b (λ q. withWindow s (holding (s .window) q)) (λ q. put b (slotStart q) p)
 
-pub serve-keeps : (s : Session) (out store : List ℕ) → Keeps (serveOf s out store) s out
+pub serve-refusal : (s : Session) (out store : List ℕ) → RefusalLeaves (serveOf s out store) s out
 unfolding serveOf
-serve-keeps s out store =
-    outcome-keeps (say (serveRefusal s (length store) (length out)) (turn s)) s out (turned s) (shown 0 store out)
+serve-refusal s out store =
+    outcome-refusal (say (serveRefusal s (length store) (length out)) (turn s)) s out (turned s) (shown 0 store out)
 
 counted-refused : (x : Said (List Turn)) (n : ℕ) → counted x ≡ refused n → x ≡ refused n
 counted-refused (refused m) n e = λ i. elim (e i) [ refused k ↦ refused k | answered k ↦ refused k ]
 counted-refused (answered ts) n e = absurd (subst (λ (x : Said ℕ). Refused x) (sym e) tt)
 
-pub drain-keeps : (s : Session) (out store : List ℕ) (budget : ℕ) → Keeps (counting (drainOf s out store budget)) s out
+pub drain-refusal : (s : Session) (out store : List ℕ) (budget : ℕ) → RefusalLeaves (counting (drainOf s out store budget)) s out
 unfolding drainOf
-drain-keeps s out store budget n e =
+drain-refusal s out store budget n e =
     let x : Said (List Turn) = say (drainRefusal s (length store) (length out) budget) (turns budget s) in
     let o : Outcome (List Turn) = drainOf s out store budget in
-    outcome-keeps x s out (turnedAll s) (shownAll 0 store out) n (counted-refused (o .said) n e)
+    outcome-refusal x s out (turnedAll s) (shownAll 0 store out) n (counted-refused (o .said) n e)
 
-pub pass-keeps : (s : Session) → Keeps (passOf s) s []
+pub pass-refusal : (s : Session) → RefusalLeaves (passOf s) s []
 unfolding passOf
-pass-keeps s = outcome-keeps (say (passRefusal s) (s .window .next)) s [] (λ p. withWindow s (skipped (s .window))) (λ p. [])
+pass-refusal s = outcome-refusal (say (passRefusal s) (s .window .next)) s [] (λ p. withWindow s (skipped (s .window))) (λ p. [])
 
 outcome-bytes : {A : Type 0} (x : Said A) (s : Session) (b : List ℕ) (f : A → Session) → b ≡ outcome x s b f (λ p. b) .bytes
 outcome-bytes (refused n) s b f = refl
@@ -66,12 +66,12 @@ unfolding passOf
 pass-bytes s = outcome-bytes (say (passRefusal s) (s .window .next)) s [] (λ p. withWindow s (skipped (s .window)))
 
 -- the three equations of a call by value
-pub comes : {A : Type 0} {o : Outcome A} {s t : Session} {b c : List ℕ} {x : Said A} → Keeps o s b → x ≡ o .said → t ≡ o .session → c ≡ o .bytes
+pub comes : {A : Type 0} {o : Outcome A} {s t : Session} {b c : List ℕ} {x : Said A} → RefusalLeaves o s b → x ≡ o .said → t ≡ o .session → c ≡ o .bytes
     → ComesTo o s b x t c
-comes keeps answer session bytes =
+comes left answer session bytes =
     record {
       answer = answer;
       session = session;
       bytes = bytes;
-      refusal = λ n e. (session ∙ keeps n (sym answer ∙ e) .0, bytes ∙ keeps n (sym answer ∙ e) .1);
+      refusal = λ n e. (session ∙ left n (sym answer ∙ e) .0, bytes ∙ left n (sym answer ∙ e) .1);
     }

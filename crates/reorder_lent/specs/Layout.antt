@@ -2,19 +2,31 @@
 use mathlib.Core.Path.{_≡_}
 use mathlib.Core.Option.{some}
 use mir.Syntax.{tyInt, w16, w32}
+use mir.Val.{Val, vint, vstruct, vcons, vnil}
 use prog.Memory.{size, align, fieldOf}
-use Rattle.position.proofs.Anchor.Laws as Anchor
-use Rattle.window.proofs.Window.Laws as Window
-use Rattle.reorder.proofs.Session.Laws as Session
+use Rattle.reorder.specs.declared.Session.{Session}
+use Rattle.position.proofs.Anchor.Laws as In-anchor
+use Rattle.window.proofs.Window.Laws as In-window
+use Rattle.reorder.proofs.Session.Laws as In-session
+
+abbrev pub pair : Val → Val → Val
+pair v w = vstruct (vcons v (vcons w vnil))
 
 pub record SessionLayout : Type 0 where
-  pub bytes : size Session.mir ≡ 24
-  pub aligned : align Session.mir ≡ 4
-  pub anchor : fieldOf Session.mir 0 ≡ some (Anchor.mir, 0)
-  pub anchor-count : fieldOf Anchor.mir 0 ≡ some (tyInt w16, 0)
-  pub anchor-time : fieldOf Anchor.mir 1 ≡ some (tyInt w32, 4)
-  pub sum-word : fieldOf Session.mir 1 ≡ some (tyInt w16, 8)
-  pub threshold : fieldOf Session.mir 2 ≡ some (tyInt w32, 12)
-  pub window : fieldOf Session.mir 3 ≡ some (Window.mir, 16)
-  pub window-next : fieldOf Window.mir 0 ≡ some (tyInt w32, 0)
-  pub window-marks : fieldOf Window.mir 1 ≡ some (tyInt w32, 4)
+  pub bytes : size In-session.mir ≡ 24
+  pub aligned : align In-session.mir ≡ 4
+  -- the fields in their order
+  pub fields : (s : Session) → In-session.lowered s ≡ vstruct
+      (vcons (pair (vint w16 (s .anchor .count)) (vint w32 (s .anchor .time)))
+      (vcons (vint w16 (s .«sum_word»))
+      (vcons (vint w32 (s .threshold))
+      (vcons (pair (vint w32 (s .window .next)) (vint w32 (s .window .marks))) vnil))))
+  -- and where each begins, in the record or in its part
+  pub anchor : fieldOf In-session.mir 0 ≡ some (In-anchor.mir, 0)
+  pub anchor-count : fieldOf In-anchor.mir 0 ≡ some (tyInt w16, 0)
+  pub anchor-time : fieldOf In-anchor.mir 1 ≡ some (tyInt w32, 4)
+  pub sum-word : fieldOf In-session.mir 1 ≡ some (tyInt w16, 8)
+  pub threshold : fieldOf In-session.mir 2 ≡ some (tyInt w32, 12)
+  pub window : fieldOf In-session.mir 3 ≡ some (In-window.mir, 16)
+  pub window-next : fieldOf In-window.mir 0 ≡ some (tyInt w32, 0)
+  pub window-marks : fieldOf In-window.mir 1 ≡ some (tyInt w32, 4)

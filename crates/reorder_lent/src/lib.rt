@@ -4,10 +4,7 @@ use reorder::Session;
 use reorder_serve::PassAnswer;
 use reorder_serve::Report;
 use reorder_serve::ServeAnswer;
-ghost use mathlib.Core.List.{[]};
-ghost use Rattle.reorder.specs.Offer.{said, openOf, offerOf};
-ghost use Rattle.reorder_serve.specs.Serve.{serveSaid, passSaid, serveOf, passOf};
-ghost use Rattle.reorder_lent.specs.Lent.{ComesTo, Drains};
+ghost use Rattle.reorder_lent.specs.Lent.{Opens, Offers, Serves, Drains, Passes};
 ghost use Rattle.reorder_lent.specs.Layout.{SessionLayout};
 
 // Opens the session with this packet at position 0. A refused opening leaves the session as it came.
@@ -18,8 +15,8 @@ pub fn open(
     threshold: u32,
     sum_word: u16,
 ) -> OfferAnswer
-    ensures { λ r. ⌜ ComesTo (openOf (now (session .entry)) (now (store .entry)) (now (packet .entry)) threshold «sum_word»)
-        (now (session .entry)) (now (store .entry)) (said r) (now (session .exit)) (now (store .exit)) ⌝ }
+    ensures { λ r. ⌜ Opens (now (session .entry)) (now (store .entry)) (now (packet .entry)) threshold «sum_word»
+        r (now (session .exit)) (now (store .exit)) ⌝ }
 {
     let opened = reorder::open_or(*session, store, packet, threshold, sum_word);
     *session = opened.session;
@@ -28,8 +25,7 @@ pub fn open(
 
 // Holds the packet at its position, in the position's 1,080 bytes of the store.
 pub fn offer(session: &mut Session, store: &mut [u8], packet: &[u8]) -> OfferAnswer
-    ensures { λ r. ⌜ ComesTo (offerOf (now (session .entry)) (now (store .entry)) (now (packet .entry)))
-        (now (session .entry)) (now (store .entry)) (said r) (now (session .exit)) (now (store .exit)) ⌝ }
+    ensures { λ r. ⌜ Offers (now (session .entry)) (now (store .entry)) (now (packet .entry)) r (now (session .exit)) (now (store .exit)) ⌝ }
 {
     let offered = reorder::offer(*session, store, packet);
     *session = offered.session;
@@ -38,8 +34,7 @@ pub fn offer(session: &mut Session, store: &mut [u8], packet: &[u8]) -> OfferAns
 
 // Serves the next position.
 pub fn serve(session: &mut Session, out: &mut [u8], store: &[u8]) -> ServeAnswer
-    ensures { λ r. ⌜ ComesTo (serveOf (now (session .entry)) (now (out .entry)) (now (store .entry)))
-        (now (session .entry)) (now (out .entry)) (serveSaid r) (now (session .exit)) (now (out .exit)) ⌝ }
+    ensures { λ r. ⌜ Serves (now (session .entry)) (now (out .entry)) (now (store .entry)) r (now (session .exit)) (now (out .exit)) ⌝ }
 {
     let served = reorder_serve::serve(*session, out, store);
     *session = served.session;
@@ -58,7 +53,7 @@ pub fn drain(session: &mut Session, out: &mut [u8], store: &[u8], budget: u32) -
 
 // Passes next over, by hand. It is lent no bytes.
 pub fn pass(session: &mut Session) -> PassAnswer
-    ensures { λ r. ⌜ ComesTo (passOf (now (session .entry))) (now (session .entry)) [] (passSaid r) (now (session .exit)) [] ⌝ }
+    ensures { λ r. ⌜ Passes (now (session .entry)) r (now (session .exit)) ⌝ }
 {
     let passed = reorder_serve::pass(*session);
     *session = passed.session;

@@ -1,42 +1,65 @@
--- What an opening, an offer and a drain over a lent session promise, one after another, is a short history.
+-- Each call's promise as the start or a step of a history, and three of them one after another.
 use Prim.Native.Nat.{ℕ}
 use mathlib.Core.Path.{refl}
 use mathlib.Core.List.{List, _++_}
 use Rattle.reorder.specs.declared.Session.{Session}
 use Rattle.reorder.specs.declared.OfferAnswer.{OfferAnswer}
-use Rattle.reorder.specs.Offer.{said, openOf, offerOf, noSession}
+use Rattle.reorder.specs.Offer.{said, openOf, noSession}
+use Rattle.reorder_serve.specs.declared.ServeAnswer.{ServeAnswer}
+use Rattle.reorder_serve.specs.declared.PassAnswer.{PassAnswer}
 use Rattle.reorder_serve.specs.declared.Report.{Report}
-use Rattle.reorder_histories.specs.Histories.{offer, drain, Event, offerTells, drainTells, State}
-use Rattle.reorder_steps.specs.Steps.{reported}
+use Rattle.reorder_serve.specs.Serve.{serveSaid, passSaid}
+use Rattle.reorder_histories.specs.Histories.{offer, serve, drain, pass, Event, offerTells, serveTells, drainTells, passTells, State}
+use Rattle.reorder_steps.specs.Steps.{reported, IsStart, IsStep, IsPassStep}
 use Rattle.reorder_steps.proofs.Steps.{short}
-use Rattle.reorder_lent.specs.Lent.{ComesTo, Drains}
-use Rattle.reorder_lent_steps.specs.LentCalls.{LentOpen, LentOffer, LentDrain, LentCalls, LentShort}
+use Rattle.reorder_lent.specs.Lent.{Opens, Offers, Serves, Drains, Passes}
+use Rattle.reorder_lent_steps.specs.LentCalls.{LentOffer, LentDrain, LentCalls, LentShort}
 use Rattle.reorder_lent_steps.proofs.Steps.{is-start, is-step}
 
+pub open-is-start : (s : Session) (store b : List ℕ) (threshold word : ℕ) (r : OfferAnswer) (t : Session) (c : List ℕ) → Opens s store b threshold word r t c
+    → IsStart (openOf s store b threshold word) b t c (offerTells (said r) b)
+open-is-start s store b threshold word r t c e = is-start s store b threshold word _ (record { answer = r; promised = e; told = refl })
+
+pub offer-is-step : (s : Session) (store b : List ℕ) (r : OfferAnswer) (t : Session) (c : List ℕ) → Offers s store b r t c
+    → IsStep s store (offer b) t c (offerTells (said r) b)
+offer-is-step s store b r t c e l = is-step _ _ (offer b) (record { answer = r; promised = e; told = refl })
+
+pub serve-is-step : (s : Session) (out store : List ℕ) (r : ServeAnswer) (t : Session) (c : List ℕ) → Serves s out store r t c
+    → IsStep s store (serve out) t store (serveTells (serveSaid r) c)
+serve-is-step s out store r t c e l = is-step _ _ (serve out) (record { answer = r; output = c; promised = e; same-store = refl; told = refl })
+
+pub drain-is-step : (s : Session) (out store : List ℕ) (budget : ℕ) (r : Report) (t : Session) (c : List ℕ) → Drains s out store budget r t c
+    → IsStep s store (drain out budget) t store (drainTells (reported r) c)
+drain-is-step s out store budget r t c e l =
+    is-step _ _ (drain out budget) (record { report = r; output = c; promised = e; same-store = refl; told = refl })
+
+pub pass-is-step : (s : Session) (r : PassAnswer) (t : Session) → Passes s r t → IsPassStep s t (passTells (passSaid r))
+pass-is-step s r t e store l = is-step _ _ pass (record { answer = r; promised = e; same-store = refl; told = refl })
+
+-- ---- an opening, an offer and a drain
 module _ (store out first b : List ℕ) (threshold word : ℕ) (x y : OfferAnswer) (r : Report) (s t u : Session) (c d e : List ℕ) where
   abbrev opening : State
   opening = record { session = s; store = c; events = offerTells (said x) first }
 
-  abbrev after-offer : List Event → State
-  after-offer l = record { session = t; store = d; events = l ++ offerTells (said y) b }
+  abbrev second : State
+  second = record { session = t; store = d; events = opening .events ++ offerTells (said y) b }
 
-  abbrev after-drain : List Event → State
-  after-drain l = record { session = u; store = d; events = l ++ drainTells (reported r) e }
+  abbrev third : State
+  third = record { session = u; store = d; events = second .events ++ drainTells (reported r) e }
 
-  pub lent-short : ComesTo (openOf noSession store first threshold word) noSession store (said x) s c → ComesTo (offerOf s c b) s c (said y) t d
-      → Drains t out d 32 r u e → LentShort store out first b threshold word r u d e
+  pub lent-short : Opens noSession store first threshold word x s c → Offers s c b y t d → Drains t out d 32 r u e
+      → LentShort store out first b threshold word r u d e
   unfolding LentCalls
   lent-short o f g =
-      let opened : LentOpen noSession store first threshold word opening = record { answer = x; promised = o; told = refl } in
-      let offered : (l : List Event) → LentOffer (record { session = s; store = c; events = l }) b (after-offer l) = λ l. record { answer = y; promised = f; told = refl } in
-      let drained : (l : List Event) → LentDrain (record { session = t; store = d; events = l }) out 32 (after-drain l) =
-      λ l. record { report = r; output = e; promised = g; same-store = refl; told = refl } in
+      let offered : LentOffer opening b second = record { answer = y; promised = f; told = refl } in
+      let drained : LentDrain second out 32 third = record { report = r; output = e; promised = g; same-store = refl; told = refl } in
       record {
-        comes = short store out first b threshold word (o .answer) (o .session) (o .bytes) (is-start noSession store first threshold word opening opened)
-            (f .answer) (f .session) (f .bytes) (λ l. is-step _ _ (offer b) (offered l))
-            (g .comes .answer) (g .described) (g .comes .session) (g .comes .bytes) (λ l. is-step _ _ (drain out 32) (drained l));
+        comes = short store out first b threshold word
+            (o .answer) (o .session) (o .bytes) (open-is-start noSession store first threshold word x s c o)
+            (f .answer) (f .session) (f .bytes) (offer-is-step s c b y t d f)
+            (g .comes .answer) (g .described) (g .comes .session) (g .comes .bytes) (drain-is-step t out d 32 r u e g);
         opening = opening;
-        opened = opened;
-        events = (offerTells (said x) first ++ offerTells (said y) b) ++ drainTells (reported r) e;
-        called = (after-offer (opening .events), offered (opening .events), (after-drain (after-offer (opening .events) .events), drained (after-offer (opening .events) .events), refl));
+        opened = record { answer = x; promised = o; told = refl };
+        events = third .events;
+        called = (second, offered, (third, drained, refl));
       }

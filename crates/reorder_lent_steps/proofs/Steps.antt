@@ -8,7 +8,7 @@ use Rattle.reorder.specs.Offer.{openOf}
 use Rattle.reorder_serve.specs.Serve.{drainOf}
 use Rattle.reorder_histories.specs.Histories.{Call, offer, serve, drain, pass, Event, offerTells, serveTells, drainTells, passTells, State, start, step, run, Consumer, atStart, HigherThresholdLosesNothing}
 use Rattle.reorder_steps.proofs.Steps.{reads-back}
-use Rattle.reorder_lent_steps.proofs.Made.{can-be-made}
+use Rattle.reorder_lent_steps.proofs.Attained.{can-hold}
 use Rattle.reorder_lent_steps.specs.LentCalls.{LentOpen, LentCall, LentCalls, LentConsumer, LentHistoriesLoseNothing}
 
 -- states with the same parts are the same
@@ -48,7 +48,7 @@ comes-to-end c b word u (v, o, m) = are-runs v u (c .calls) m ∙ ap (λ (x : St
 pub lent-histories-lose-nothing : HigherThresholdLosesNothing → LentHistoriesLoseNothing
 lent-histories-lose-nothing h =
     record {
-      can-be-made = can-be-made;
+      can-hold = can-hold;
       is-start = is-start;
       is-step = is-step;
       are-runs = are-runs;

@@ -4,10 +4,7 @@ use reorder::Session;
 use reorder_serve::Drained;
 use reorder_serve::Passed;
 use reorder_serve::Served;
-ghost use mathlib.Core.List.{[]};
-ghost use Rattle.reorder.specs.Offer.{said, openOf, offerOf};
-ghost use Rattle.reorder_serve.specs.Serve.{serveSaid, passSaid, serveOf, passOf};
-ghost use Rattle.reorder_lent.specs.Lent.{ComesTo, Drains};
+ghost use Rattle.reorder_lent.specs.Lent.{Opens, Offers, Serves, Drains, Passes};
 
 // Opens the session with this packet at position 0. A refused opening returns the session given.
 pub fn open(
@@ -17,8 +14,7 @@ pub fn open(
     threshold: u32,
     sum_word: u16,
 ) -> Offered
-    ensures { λ r. ⌜ ComesTo (openOf session (now (store .entry)) (now (packet .entry)) threshold «sum_word»)
-        session (now (store .entry)) (said (r .answer)) (r .session) (now (store .exit)) ⌝ }
+    ensures { λ r. ⌜ Opens session (now (store .entry)) (now (packet .entry)) threshold «sum_word» (r .answer) (r .session) (now (store .exit)) ⌝ }
 {
     let answer = reorder_lent::open(&mut session, store, packet, threshold, sum_word);
     Offered { answer, session }
@@ -26,8 +22,7 @@ pub fn open(
 
 // Holds the packet at its position, in the position's 1,080 bytes of the store.
 pub fn offer(mut session: Session, store: &mut [u8], packet: &[u8]) -> Offered
-    ensures { λ r. ⌜ ComesTo (offerOf session (now (store .entry)) (now (packet .entry)))
-        session (now (store .entry)) (said (r .answer)) (r .session) (now (store .exit)) ⌝ }
+    ensures { λ r. ⌜ Offers session (now (store .entry)) (now (packet .entry)) (r .answer) (r .session) (now (store .exit)) ⌝ }
 {
     let answer = reorder_lent::offer(&mut session, store, packet);
     Offered { answer, session }
@@ -35,8 +30,7 @@ pub fn offer(mut session: Session, store: &mut [u8], packet: &[u8]) -> Offered
 
 // Serves the next position.
 pub fn serve(mut session: Session, out: &mut [u8], store: &[u8]) -> Served
-    ensures { λ r. ⌜ ComesTo (serveOf session (now (out .entry)) (now (store .entry)))
-        session (now (out .entry)) (serveSaid (r .answer)) (r .session) (now (out .exit)) ⌝ }
+    ensures { λ r. ⌜ Serves session (now (out .entry)) (now (store .entry)) (r .answer) (r .session) (now (out .exit)) ⌝ }
 {
     let answer = reorder_lent::serve(&mut session, out, store);
     Served { answer, session }
@@ -52,7 +46,7 @@ pub fn drain(mut session: Session, out: &mut [u8], store: &[u8], budget: u32) ->
 
 // Passes next over, by hand. It is lent no bytes.
 pub fn pass(mut session: Session) -> Passed
-    ensures { λ r. ⌜ ComesTo (passOf session) session [] (passSaid (r .answer)) (r .session) [] ⌝ }
+    ensures { λ r. ⌜ Passes session (r .answer) (r .session) ⌝ }
 {
     let answer = reorder_lent::pass(&mut session);
     Passed { answer, session }

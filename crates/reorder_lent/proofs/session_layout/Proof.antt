@@ -8,6 +8,7 @@ returns c =
     record {
       bytes = refl;
       aligned = refl;
+      fields = λ s. refl;
       anchor = refl;
       anchor-count = refl;
       anchor-time = refl;

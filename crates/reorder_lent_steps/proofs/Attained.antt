@@ -1,4 +1,4 @@
--- Any list of calls can be made over a lent session: what a call says is said by some answer, and the rest is as it promises.
+-- The promises of any opening and any list of calls can all hold: what a call says is said by some answer, and the rest is as it promises.
 use Prim.Native.Nat.{ℕ, zero, suc, _+_}
 use mathlib.Core.Path.{_≡_, refl, sym, ap, _∙_}
 use mathlib.Core.List.{List, [], _∷_, _++_}
@@ -9,7 +9,7 @@ use Rattle.reorder.specs.declared.Session.{Session}
 use Rattle.reorder.specs.declared.OfferAnswer.{OfferAnswer}
 use Rattle.reorder.specs.declared.OfferAnswer.the-variants as Of
 use Rattle.reorder.specs.Outcome.{outcome}
-use Rattle.reorder.specs.Offer.{said, offerOf}
+use Rattle.reorder.specs.Offer.{said, openOf, offerOf}
 use Rattle.reorder_serve.specs.declared.ServeAnswer.{ServeAnswer}
 use Rattle.reorder_serve.specs.declared.ServeAnswer.the-variants as Sv
 use Rattle.reorder_serve.specs.declared.DrainAnswer.{DrainAnswer}
@@ -20,11 +20,11 @@ use Rattle.reorder_serve.specs.declared.Report.{Report}
 use Rattle.reorder_serve.specs.Turn.{Turn, packet, missing, waiting, turns, turnedAll, shownAll}
 use Rattle.reorder_serve.specs.Serve.{serveSaid, serveOf, drainSaid, drainRefusal, drainOf, counted, descriptions, countSaid, passSaid, passOf}
 use Rattle.reorder_serve.proofs.Turns.{counted-next}
-use Rattle.reorder_histories.specs.Histories.{Call, offer, serve, drain, pass, offerTells, serveTells, drainTells, passTells, State, step, run}
+use Rattle.reorder_histories.specs.Histories.{Call, offer, serve, drain, pass, offerTells, serveTells, drainTells, passTells, State, step, run, Consumer, atStart, atEnd}
 use Rattle.reorder_steps.proofs.Steps.{reads-back}
 use Rattle.reorder_lent.specs.Lent.{Drains}
-use Rattle.reorder_lent.proofs.Comes.{offer-keeps, serve-keeps, drain-keeps, pass-keeps, pass-bytes, comes}
-use Rattle.reorder_lent_steps.specs.LentCalls.{LentCall, LentCalls}
+use Rattle.reorder_lent.proofs.Comes.{open-refusal, offer-refusal, serve-refusal, drain-refusal, pass-refusal, pass-bytes, comes}
+use Rattle.reorder_lent_steps.specs.LentCalls.{LentCall, LentCalls, LentConsumer}
 
 -- ---- what is said is said by an answer
 
@@ -61,7 +61,7 @@ drains : (s : Session) (out store : List ℕ) (budget : ℕ) (r : Report) → dr
 unfolding drainOf
 drains s out store budget r e f =
     record {
-      comes = comes (drain-keeps s out store budget) e refl refl;
+      comes = comes (drain-refusal s out store budget) e refl refl;
       described = f;
       count = count-is-next (drainRefusal s (length store) (length out) budget) budget s out store
           ∙ ap (λ (x : Said ℕ). s .window .next + countSaid x) (sym e);
@@ -69,27 +69,27 @@ drains s out store budget r e f =
 
 -- ---- the calls
 
-can-call : (w : State) (c : Call) → LentCall w c (step w c)
+call-holds : (w : State) (c : Call) → LentCall w c (step w c)
 unfolding step
-can-call w (offer b) =
+call-holds w (offer b) =
     let o = offerOf (w .session) (w .store) b in
     let (r, e) = offer-says (o .said) in
     record {
       answer = r;
-      promised = comes (offer-keeps (w .session) (w .store) b) e refl refl;
+      promised = comes (offer-refusal (w .session) (w .store) b) e refl refl;
       told = ap (λ (x : Said ℕ). w .events ++ offerTells x b) (sym e);
     }
-can-call w (serve out) =
+call-holds w (serve out) =
     let o = serveOf (w .session) out (w .store) in
     let (r, e) = serve-says (o .said) in
     record {
       answer = r;
       output = o .bytes;
-      promised = comes (serve-keeps (w .session) out (w .store)) e refl refl;
+      promised = comes (serve-refusal (w .session) out (w .store)) e refl refl;
       same-store = refl;
       told = ap (λ (x : Said Turn). w .events ++ serveTells x (o .bytes)) (sym e);
     }
-can-call w (drain out budget) =
+call-holds w (drain out budget) =
     let o = drainOf (w .session) out (w .store) budget in
     let (n, e) = drain-says (counted (o .said)) in
     let r : Report = record { answer = n; descriptions = descriptions (o .said) } in
@@ -100,16 +100,29 @@ can-call w (drain out budget) =
       same-store = refl;
       told = ap (λ (x : Said (List Turn)). w .events ++ drainTells x (o .bytes)) (sym (reads-back r (o .said) e refl));
     }
-can-call w pass =
+call-holds w pass =
     let (r, e) = pass-says (passOf (w .session) .said) in
     record {
       answer = r;
-      promised = comes (pass-keeps (w .session)) e refl (pass-bytes (w .session));
+      promised = comes (pass-refusal (w .session)) e refl (pass-bytes (w .session));
       same-store = refl;
       told = ap (λ (x : Said ℕ). w .events ++ passTells x) (sym e);
     }
 
-pub can-be-made : (w : State) (cs : List Call) → LentCalls w cs (run w cs)
+calls-hold : (w : State) (cs : List Call) → LentCalls w cs (run w cs)
 unfolding LentCalls run
-can-be-made w [] = refl
-can-be-made w (c ∷ cs) = (step w c, can-call w c, can-be-made (step w c) cs)
+calls-hold w [] = refl
+calls-hold w (c ∷ cs) = (step w c, call-holds w c, calls-hold (step w c) cs)
+
+pub can-hold : (c : Consumer) (b : List ℕ) (word : ℕ) → LentConsumer c b word (atEnd c b word)
+can-hold c b word =
+    let o = openOf (c .before) (c .store) b (c .threshold) word in
+    let (r, e) = offer-says (o .said) in (
+      atStart c b word,
+      record {
+        answer = r;
+        promised = comes (open-refusal (c .before) (c .store) b (c .threshold) word) e refl refl;
+        told = ap (λ (x : Said ℕ). offerTells x b) (sym e);
+      },
+      calls-hold (atStart c b word) (c .calls),
+    )
