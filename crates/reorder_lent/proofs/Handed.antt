@@ -1,4 +1,4 @@
--- The other parameters are handed on to the call by value, and what is had of them comes back: for any list of them.
+-- A function hands its other parameters on to the call that it makes, and what is had of them comes back: for any list of them.
 use mathlib.Core.Path.{_≡_, refl, ap}
 use Prim.Native.Nat.{ℕ, suc}
 use mathlib.Core.List.{List, [], _∷_}
@@ -70,7 +70,7 @@ module _ {M : Type 1} {𝓤 : URA M} {H : Heap 𝓤} {A : Atoms 𝓤} (W : Given
         move ! (1 ∷ []) $ fsplit ! $ move ! (2 ∷ 1 ∷ []) $
         lends (suc i) t j ps of (a .1) (is .1) (bs .1) ts (at .1) in-temps (move ! (2 ∷ 1 ∷ []) $ fjoin ! $ move ! (1 ∷ 0 ∷ []) $ s)
 
--- ---- from the function over the lent session, whose lifetimes are κs, to the call by value, whose lifetimes are κs′
+-- ---- from the function, whose lifetimes are κs, to the call that it makes, whose lifetimes are κs′
 
 module _ (n : ℕ) (κs : Lfts n) (n′ : ℕ) (κs′ : Lfts n′) where
   abbrev pub hand : (j j′ : ℕ) (ps : List Param) (of : Lfts n → Lfts (lives ps)) (of′ : Lfts n′ → Lfts (lives ps)) → Args n κs j ps of → Args n′ κs′ j′ ps of′
@@ -86,7 +86,7 @@ module _ (n : ℕ) (κs : Lfts n) (n′ : ℕ) (κs′ : Lfts n′) where
   same-entry j j′ (reads w ∷ ps) of of′ a = λ i. (now (a .0), same-entry (suc j) (suc j′) ps (λ κs. of κs .1) (λ κs. of′ κs .1) (a .1) i)
   same-entry j j′ (number w ∷ ps) of of′ a = λ i. (a .0, same-entry j j′ ps of of′ (a .1) i)
 
-  -- what the call by value leaves, as the function leaves it
+  -- what the call leaves, as the function leaves it
   abbrev pub back : (j j′ : ℕ) (ps : List Param) (of : Lfts n → Lfts (lives ps)) (of′ : Lfts n′ → Lfts (lives ps)) (a : Args n κs j ps of)
       → Last n′ κs′ j′ ps of′ (hand j j′ ps of of′ a) → Last n κs j ps of a
   back j j′ [] of of′ a ws = tt
@@ -125,7 +125,7 @@ module _ (n : ℕ) (κs : Lfts n) (n′ : ℕ) (κs′ : Lfts n′) where
 
   -- ---- what is owned
 
-  -- what the function keeps: what is read can be had twice
+  -- what the function keeps: what is read, or a number, can be had twice
   abbrev pub kept : (j : ℕ) (ps : List Param) (of : Lfts n → Lfts (lives ps)) → Args n κs j ps of → Fml
   kept j [] of a = ftrue
   kept j (writes w ∷ ps) of a = kept (suc j) ps (λ κs. of κs .1) (a .1)

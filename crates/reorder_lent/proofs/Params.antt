@@ -1,6 +1,6 @@
 -- What a call takes beside the session, as a list: elements to write, elements to read, and numbers, in any order.
--- Of each list: the parameters of the function over the lent session and of the call by value, the locals and statements that hand them on,
--- what goes to the call by value, and what comes back.
+-- Of each list: the parameters of a signature, the locals and statements that hand them on to another call, what a contract reads of them, and
+-- their machine values.
 use Prim.Native.Nat.{ℕ, zero, suc}
 use mathlib.Core.List.{List, [], _∷_}
 use lib.ListN.{length}

@@ -154,7 +154,7 @@ module _ (X : Result) (call-key : Name) (ps : List Param) where
       abbrev Post : Val → SProp 𝓤
       Post = walkOf 𝓤 H A outer stayed (clauses 𝓤) .post ((κs, qs, tt, (h, c), (mach h ∷ [], values n κs 0 ps of c)), tt)
 
-      -- what stands at exit is made of the answer y and the session t, and ws is left in what was written
+      -- the call is made with a reference of lifetime α; it answers y, and leaves the session t and, in what it writes, ws
       module _ (α : Lft) where
         abbrev ks : Lfts m
         ks = (α, κs)
