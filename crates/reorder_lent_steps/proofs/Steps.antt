@@ -6,9 +6,8 @@ use Rattle.octets.specs.Refusal.{Said}
 use Rattle.reorder.specs.declared.Session.{Session}
 use Rattle.reorder.specs.Offer.{openOf}
 use Rattle.reorder_serve.specs.Serve.{drainOf}
-use Rattle.reorder_histories.specs.Histories.{Call, offer, serve, drain, pass, Event, offerTells, serveTells, drainTells, passTells, State, start, step, run, Consumer, atStart, HigherThresholdLosesNothing}
+use Rattle.reorder_histories.specs.Histories.{Call, offer, serve, drain, pass, Event, offerTells, serveTells, drainTells, passTells, State, start, step, run, Consumer, atStart, atEnd, HigherThresholdLosesNothing}
 use Rattle.reorder_steps.proofs.Steps.{reads-back}
-use Rattle.reorder_lent_steps.proofs.Attained.{can-hold}
 use Rattle.reorder_lent_steps.specs.LentCalls.{LentOpen, LentCall, LentCalls, LentConsumer, LentHistoriesLoseNothing}
 
 -- states with the same parts are the same
@@ -45,8 +44,9 @@ are-runs w u (c ∷ cs) (v, d, m) = are-runs v u cs m ∙ ap (λ (x : State). ru
 comes-to-end : (c : Consumer) (b : List ℕ) (word : ℕ) (u : State) → LentConsumer c b word u → u ≡ run (atStart c b word) (c .calls)
 comes-to-end c b word u (v, o, m) = are-runs v u (c .calls) m ∙ ap (λ (x : State). run x (c .calls)) (is-start _ _ b _ word v o)
 
-pub lent-histories-lose-nothing : HigherThresholdLosesNothing → LentHistoriesLoseNothing
-lent-histories-lose-nothing h =
+pub lent-histories-lose-nothing : ((c : Consumer) (b : List ℕ) (word : ℕ) → LentConsumer c b word (atEnd c b word)) → HigherThresholdLosesNothing
+    → LentHistoriesLoseNothing
+lent-histories-lose-nothing can-hold h =
     record {
       can-hold = can-hold;
       is-start = is-start;
