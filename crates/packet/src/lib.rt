@@ -10,7 +10,8 @@ ghost use Rattle.packet.specs.Read.{readRefusal, said, readSaid, readArr
 // The published place of the science packet's sum, a word number (docs/LAYOUTS.md has the working).
 pub const PUBLISHED_SUM_WORD: usize = 70;
 
-// The free fields that are single numbers.
+// The free fields that are single numbers, laid out as C does.
+#[repr(C)]
 pub struct PacketFields {
     pub error_status: u8,
     pub count: u16,
@@ -74,8 +75,8 @@ fn header_refusal(bytes: &[u8]) -> u8
     0
 }
 
-// Refusals 1 to 10, or 0.
-fn refusal(bytes: &[u8], sum_word: usize) -> u8
+// Refusals 1 to 10, or 0: the check of a packet without its fields. Any bytes, any word.
+pub fn packet_refusal(bytes: &[u8], sum_word: usize) -> u8
     ensures { λ r. ⌜ r ≡ readRefusal (now (bytes .entry)) «sum_word» ⌝ }
 {
     if bytes.len() != 1080 {
@@ -140,7 +141,7 @@ fn read_arrays(bytes: &[u8]) -> PacketArrays
 pub fn read_answer(bytes: &[u8], sum_word: usize) -> PacketAnswer
     ensures { λ r. ⌜ said r ≡ readSaid (now (bytes .entry)) «sum_word» ⌝ }
 {
-    let n = refusal(bytes, sum_word);
+    let n = packet_refusal(bytes, sum_word);
     if n != 0 {
         return PacketAnswer::Refused(n);
     }

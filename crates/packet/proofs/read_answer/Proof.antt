@@ -7,13 +7,13 @@ use borrow.Author.Needs.{needs}
 use Rattle.packet.proofs.read_answer.Statement.{statement}
 use Rattle.packet.proofs.read_answer.Tie as tie
 
-refusal-requires : tie.Need-refusal-requires
-refusal-requires c κs = search needs
+packet-refusal-requires : tie.Need-packet-refusal-requires
+packet-refusal-requires c κs = search needs
 
 returns : tie.Need-returns
 returns c =
     let s = now (c .before .before .before .args .bytes) in
-    say-refused _ _ (fieldsOf s) (c .before .refusal .ensures) (c .if1 .taken)
+    say-refused _ _ (fieldsOf s) (c .before .packet-refusal .ensures) (c .if1 .taken)
 
 read-fields-requires : tie.Need-read-fields-requires
 read-fields-requires c κs = search needs
@@ -21,8 +21,8 @@ read-fields-requires c κs = search needs
 returns-2 : tie.Need-returns-2
 returns-2 c =
     let s = now (c .before .before .before .before .args .bytes) in
-    let z = sym (c .before .before .refusal .ensures) ∙ c .before .if1 .left in
+    let z = sym (c .before .before .packet-refusal .ensures) ∙ c .before .if1 .left in
     say-answered _ (fieldsOf s) _ z (c .read-fields .ensures)
 
 pub read-answer-spec : {M : Type 1} → statement M
-read-answer-spec = tie.close (tie.spec refusal-requires returns read-fields-requires returns-2)
+read-answer-spec = tie.close (tie.spec packet-refusal-requires returns read-fields-requires returns-2)

@@ -3,8 +3,8 @@ use mathlib.Core.Path.{sym, _∙_}
 use Rattle.octets.proofs.Ladder.{rungs}
 use Rattle.packet.specs.Read.{readRefusal}
 use borrow.Author.Needs.{needs}
-use Rattle.packet.proofs.refusal.Statement.{statement}
-use Rattle.packet.proofs.refusal.Tie as tie
+use Rattle.packet.proofs.packet_refusal.Statement.{statement}
+use Rattle.packet.proofs.packet_refusal.Tie as tie
 
 returns : tie.Need-returns
 unfolding readRefusal
@@ -49,8 +49,8 @@ returns-7 : tie.Need-returns-7
 unfolding readRefusal
 returns-7 c = let h = sym (c .before .before .before .before .before .before .header-refusal .ensures) ∙ c .before .before .before .before .before .if4 .left in rw (← c .before .before .before .before .u8-at .ensures, ← c .before .before .packet-sum .ensures, ← c .before .u16-at .ensures) (search rungs depth 10)
 
-pub refusal-spec : {M : Type 1} → statement M
-refusal-spec =
+pub packet-refusal-spec : {M : Type 1} → statement M
+packet-refusal-spec =
     tie.close
     (tie.spec
     returns
