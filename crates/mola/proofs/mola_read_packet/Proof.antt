@@ -1,0 +1,47 @@
+-- The numbers of each case.
+use mathlib.Core.Path.{sym, ap, _∙_}
+use Rattle.packet.specs.declared.PacketFields.{PacketFields}
+use Rattle.packet.specs.declared.PacketAnswer.{PacketAnswer}
+use Rattle.packet.specs.Read.{said}
+use Rattle.mola.specs.declared.PacketNumbers.{PacketNumbers}
+use Rattle.mola.specs.Read.{inNumbers}
+use borrow.Author.Needs.{needs}
+use Rattle.mola.proofs.mola_read_packet.Statement.{statement}
+use Rattle.mola.proofs.mola_read_packet.Tie as tie
+
+read-answer-requires : tie.Need-read-answer-requires
+read-answer-requires c κs = search needs
+
+enum-known-answer : tie.Need-enum-known-answer
+enum-known-answer c = search needs
+
+cast-t7 : tie.Need-cast-t7
+cast-t7 c = search needs
+
+no-fields-requires : tie.Need-no-fields-requires
+no-fields-requires c κs = search needs
+
+enum-known-answer-2 : tie.Need-enum-known-answer-2
+enum-known-answer-2 c = search needs
+
+returns : tie.Need-returns
+returns c =
+    ap (λ (f : PacketFields). record { refusal = c .before .before .answer .given .0 .0; fields = f }) (c .no-fields .ensures)
+    ∙ ap (λ (a : PacketAnswer). inNumbers (said a)) (sym (c .before .before .answer .given .1))
+    ∙ ap inNumbers (c .before .before .before .before .read-answer .ensures)
+
+returns-2 : tie.Need-returns-2
+returns-2 c =
+    ap (λ (a : PacketAnswer). inNumbers (said a)) (sym (c .before .answer2 .given .1)) ∙ ap inNumbers (c .before .before .before .read-answer .ensures)
+
+pub mola-read-packet-spec : {M : Type 1} → statement M
+mola-read-packet-spec =
+    tie.close
+    (tie.spec
+    read-answer-requires
+    enum-known-answer
+    cast-t7
+    no-fields-requires
+    enum-known-answer-2
+    returns
+    returns-2)

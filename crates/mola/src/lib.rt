@@ -1,0 +1,176 @@
+// The functions for C and Rust (include/mola.h). Each answers in numbers: a refusal is its number, which is never 0.
+use packet::PacketAnswer;
+use packet::PacketArrays;
+use packet::PacketFields;
+use packet_writer::PacketWritten;
+use reorder::Session;
+use reorder_numbers::Answer;
+use reorder_numbers::Count;
+ghost use mathlib.Core.Path.{_≡_};
+ghost use Rattle.checksum.specs.Sum.{packetSum};
+ghost use Rattle.packet.specs.Read.{readRefusal, readSaid};
+ghost use Rattle.packet_writer.specs.Write.{writeRefusal, writeBytes};
+ghost use Rattle.pedr.specs.Read.{recordRefusal};
+ghost use Rattle.reorder_numbers.specs.Numbers.{Opens, Offers, Serves, Drains, Passes};
+ghost use Rattle.mola.specs.Read.{noFields, inNumbers};
+
+// A packet's refusal number, or 0, and its fields, which are all zeros on a refusal.
+#[repr(C)]
+pub struct PacketNumbers {
+    pub refusal: u32,
+    pub fields: PacketFields,
+}
+
+// The refusal number of a packet whose sum stands at word sum_word, or 0.
+#[no_mangle]
+pub extern "C" fn mola_check_packet(packet: &[u8], sum_word: usize) -> u8
+    ensures { λ r. ⌜ r ≡ readRefusal (now (packet .entry)) «sum_word» ⌝ }
+{
+    packet::packet_refusal(packet, sum_word)
+}
+
+// Fields of all zeros.
+fn no_fields() -> PacketFields
+    ensures { λ r. ⌜ r ≡ noFields ⌝ }
+{
+    PacketFields {
+        error_status: 0,
+        count: 0,
+        coarse_time: 0,
+        fine_time: 0,
+        status_register: 0,
+        software_version: 0,
+        ram_flag_word: 0,
+        status_word_1: 0,
+        status_word_2: 0,
+        software_checksum: 0,
+        commands_received: 0,
+        command_errors: 0,
+        transmitter_threshold: 0,
+        tracking_status: 0,
+        hstart: 0,
+    }
+}
+
+// The same with the packet's fields.
+#[no_mangle]
+pub extern "C" fn mola_read_packet(packet: &[u8], sum_word: usize) -> PacketNumbers
+    ensures { λ r. ⌜ r ≡ inNumbers (readSaid (now (packet .entry)) «sum_word») ⌝ }
+{
+    let answer = packet::read_answer(packet, sum_word);
+    match answer {
+        PacketAnswer::Refused(n) => PacketNumbers {
+            refusal: n as u32,
+            fields: no_fields(),
+        },
+        PacketAnswer::Accepted(fields) => PacketNumbers { refusal: 0, fields },
+    }
+}
+
+// The packet sum with its place at word sum_word, of any bytes.
+#[no_mangle]
+pub extern "C" fn mola_packet_sum(bytes: &[u8], sum_word: usize) -> u16
+    ensures { λ r. ⌜ r ≡ packetSum (now (bytes .entry)) «sum_word» ⌝ }
+{
+    checksum::packet_sum(bytes, sum_word)
+}
+
+// Writes a packet into out, with its sum at word sum_word: the refusal number, or 0. A refusal leaves out as it was.
+#[no_mangle]
+pub extern "C" fn mola_write_packet(
+    fields: PacketFields,
+    temperatures: &[u8; 16],
+    readings: &[u8; 14],
+    bins: &[u8; 48],
+    carried: &[u8],
+    sum_word: usize,
+    out: &mut [u8],
+) -> u8
+    ensures { λ r. ⌜ (r ≡ writeRefusal fields (now (carried .entry)) «sum_word» (now (out .entry)))
+        × (now (out .exit) ≡ writeBytes fields
+        (record { temperatures = now (temperatures .entry); readings = now (readings .entry); bins = now (bins .entry) })
+        (now (carried .entry)) «sum_word» (now (out .entry))) ⌝ }
+{
+    let arrays = PacketArrays {
+        temperatures: *temperatures,
+        readings: *readings,
+        bins: *bins,
+    };
+    let written = packet_writer::write_packet(fields, arrays, carried, sum_word, out);
+    match written {
+        PacketWritten::Refused(n) => n,
+        PacketWritten::Written => 0,
+    }
+}
+
+// The refusal number of a PEDR record, or 0.
+#[no_mangle]
+pub extern "C" fn mola_check_record(bytes: &[u8]) -> u8
+    ensures { λ r. ⌜ r ≡ recordRefusal (now (bytes .entry)) ⌝ }
+{
+    pedr::record_refusal(bytes)
+}
+
+// Opens the session with this packet at position 0. A refused opening leaves the session as it came.
+#[no_mangle]
+pub extern "C" fn mola_open(
+    session: &mut Session,
+    store: &mut [u8],
+    packet: &[u8],
+    threshold: u32,
+    sum_word: u16,
+) -> Answer
+    ensures { λ r. ⌜ Opens (now (session .entry)) (now (store .entry)) (now (packet .entry)) threshold «sum_word»
+        r (now (session .exit)) (now (store .exit)) ⌝ }
+{
+    let opened = reorder_numbers::open(*session, store, packet, threshold, sum_word);
+    *session = opened.session;
+    opened.answer
+}
+
+// Holds the packet at its position, in the position's 1,080 bytes of the store.
+#[no_mangle]
+pub extern "C" fn mola_offer(session: &mut Session, store: &mut [u8], packet: &[u8]) -> Answer
+    ensures { λ r. ⌜ Offers (now (session .entry)) (now (store .entry)) (now (packet .entry)) r (now (session .exit)) (now (store .exit)) ⌝ }
+{
+    let offered = reorder_numbers::offer(*session, store, packet);
+    *session = offered.session;
+    offered.answer
+}
+
+// Serves the next position.
+#[no_mangle]
+pub extern "C" fn mola_serve(session: &mut Session, out: &mut [u8], store: &[u8]) -> Answer
+    ensures { λ r. ⌜ Serves (now (session .entry)) (now (out .entry)) (now (store .entry)) r (now (session .exit)) (now (out .exit)) ⌝ }
+{
+    let served = reorder_numbers::serve(*session, out, store);
+    *session = served.session;
+    served.answer
+}
+
+// Serves until a serve waits or the budget is spent, and describes the answers in the lent numbers.
+#[no_mangle]
+pub extern "C" fn mola_drain(
+    session: &mut Session,
+    out: &mut [u8],
+    store: &[u8],
+    budget: u32,
+    descriptions: &mut [u32],
+) -> Count
+    ensures { λ r. ⌜ Drains (now (session .entry)) (now (out .entry)) (now (store .entry)) budget (now (descriptions .entry))
+        r (now (session .exit)) (now (out .exit)) (now (descriptions .exit)) ⌝ }
+{
+    let drained = reorder_numbers::drain(*session, out, store, budget, descriptions);
+    *session = drained.session;
+    drained.answer
+}
+
+// Passes next over, by hand.
+#[no_mangle]
+pub extern "C" fn mola_pass(session: &mut Session) -> Answer
+    ensures { λ r. ⌜ Passes (now (session .entry)) r (now (session .exit)) ⌝ }
+{
+    let passed = reorder_numbers::pass(*session);
+    *session = passed.session;
+    passed.answer
+}

@@ -1,0 +1,27 @@
+-- What `offer` promises, in numbers.
+use denote.Ref.{now}
+use Rattle.reorder.specs.Offer.{said}
+use Rattle.reorder_serve.specs.Turn.{packet}
+use Rattle.reorder_lent.proofs.Comes.{offer-refusal}
+use Rattle.reorder_numbers.proofs.Said.{says}
+use borrow.Author.Needs.{needs}
+use Rattle.reorder_numbers.proofs.offer.Statement.{statement}
+use Rattle.reorder_numbers.proofs.offer.Tie as tie
+
+offer-requires : tie.Need-offer-requires
+offer-requires c κs = search needs
+
+held-numbers-requires : tie.Need-held-numbers-requires
+held-numbers-requires c κs = search needs
+
+same-length : tie.Need-same-length
+same-length c = search needs
+
+returns : tie.Need-returns
+returns c =
+    let a = c .before .before .before .before .before .before .before .before .args in
+    let o = c .before .before .before .before .offer in
+    says packet (said (o .result .answer)) (offer-refusal (a .session) (now (a .store)) (now (a .packet))) (c .held-numbers .ensures) (o .ensures .0) (o .ensures .1 .0) (o .ensures .1 .1)
+
+pub offer-spec : {M : Type 1} → statement M
+offer-spec = tie.close (tie.spec offer-requires held-numbers-requires same-length returns)

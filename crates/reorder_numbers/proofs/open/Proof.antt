@@ -1,0 +1,27 @@
+-- What `open-or` promises, in numbers.
+use denote.Ref.{now}
+use Rattle.reorder.specs.Offer.{said}
+use Rattle.reorder_serve.specs.Turn.{packet}
+use Rattle.reorder_lent.proofs.Comes.{open-refusal}
+use Rattle.reorder_numbers.proofs.Said.{says}
+use borrow.Author.Needs.{needs}
+use Rattle.reorder_numbers.proofs.open.Statement.{statement}
+use Rattle.reorder_numbers.proofs.open.Tie as tie
+
+open-or-requires : tie.Need-open-or-requires
+open-or-requires c κs = search needs
+
+held-numbers-requires : tie.Need-held-numbers-requires
+held-numbers-requires c κs = search needs
+
+same-length : tie.Need-same-length
+same-length c = search needs
+
+returns : tie.Need-returns
+returns c =
+    let a = c .before .before .before .before .before .before .before .before .args in
+    let o = c .before .before .before .before .open-or in
+    says packet (said (o .result .answer)) (open-refusal (a .session) (now (a .store)) (now (a .packet)) (a .threshold) (a .sum-word)) (c .held-numbers .ensures) (o .ensures .0) (o .ensures .1 .0) (o .ensures .1 .1)
+
+pub open-spec : {M : Type 1} → statement M
+open-spec = tie.close (tie.spec open-or-requires held-numbers-requires same-length returns)

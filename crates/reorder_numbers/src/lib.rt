@@ -1,0 +1,230 @@
+// The reorder buffer's calls by value, with their answers as numbers: what the functions for C and Rust stand on.
+use reorder::OfferAnswer;
+use reorder::Session;
+use reorder_serve::Description;
+use reorder_serve::DrainAnswer;
+use reorder_serve::PassAnswer;
+use reorder_serve::ServeAnswer;
+ghost use mathlib.Core.Path.{_≡_};
+ghost use mathlib.Core.List.{[], _∷_};
+ghost use Rattle.octets.specs.Bytes.{put};
+ghost use Rattle.reorder.specs.Offer.{said};
+ghost use Rattle.reorder_serve.specs.Serve.{serveSaid, drainSaid, passSaid};
+ghost use Rattle.reorder_numbers.specs.Numbers.{held, served, passed, drained, listed, Opens, Offers, Serves, Drains, Passes};
+
+// A refusal's number and zeros; or 0, a kind (0 Waiting, 1 a packet, 2 a missing position) and a position.
+#[repr(C)]
+pub struct Answer {
+    pub refusal: u32,
+    pub kind: u32,
+    pub position: u32,
+}
+
+// A refusal's number and 0; or 0 and how many answers there were.
+#[repr(C)]
+pub struct Count {
+    pub refusal: u32,
+    pub count: u32,
+}
+
+// What a call answers, and the session then.
+pub struct Answered {
+    pub answer: Answer,
+    pub session: Session,
+}
+
+// What a drain answers, and the session then.
+pub struct Counted {
+    pub answer: Count,
+    pub session: Session,
+}
+
+// The numbers of what an opening or an offer answers.
+fn held_numbers(answer: OfferAnswer) -> Answer
+    ensures { λ r. ⌜ r ≡ held (said answer) ⌝ }
+{
+    match answer {
+        OfferAnswer::Refused(n) => Answer {
+            refusal: n as u32,
+            kind: 0,
+            position: 0,
+        },
+        OfferAnswer::Held(p) => Answer {
+            refusal: 0,
+            kind: 1,
+            position: p,
+        },
+    }
+}
+
+// The numbers of what a serve answers.
+fn served_numbers(answer: ServeAnswer) -> Answer
+    ensures { λ r. ⌜ r ≡ served (serveSaid answer) ⌝ }
+{
+    match answer {
+        ServeAnswer::Refused(n) => Answer {
+            refusal: n as u32,
+            kind: 0,
+            position: 0,
+        },
+        ServeAnswer::Packet(p) => Answer {
+            refusal: 0,
+            kind: 1,
+            position: p,
+        },
+        ServeAnswer::Missing(p) => Answer {
+            refusal: 0,
+            kind: 2,
+            position: p,
+        },
+        ServeAnswer::Waiting => Answer {
+            refusal: 0,
+            kind: 0,
+            position: 0,
+        },
+    }
+}
+
+// The numbers of what a pass answers.
+fn passed_numbers(answer: PassAnswer) -> Answer
+    ensures { λ r. ⌜ r ≡ passed (passSaid answer) ⌝ }
+{
+    match answer {
+        PassAnswer::Refused(n) => Answer {
+            refusal: n as u32,
+            kind: 0,
+            position: 0,
+        },
+        PassAnswer::Missing(p) => Answer {
+            refusal: 0,
+            kind: 2,
+            position: p,
+        },
+    }
+}
+
+// The numbers of what a drain answers.
+fn drained_numbers(answer: DrainAnswer) -> Count
+    ensures { λ r. ⌜ r ≡ drained (drainSaid answer) ⌝ }
+{
+    match answer {
+        DrainAnswer::Refused(n) => Count {
+            refusal: n as u32,
+            count: 0,
+        },
+        DrainAnswer::Count(k) => Count {
+            refusal: 0,
+            count: k,
+        },
+    }
+}
+
+// Stores a number at index i, where there is one.
+fn put_number(out: &mut [u32], i: usize, n: u32)
+    ensures { λ _. ⌜ now (out .exit) ≡ put (now (out .entry)) i (n ∷ []) ⌝ }
+{
+    if i < out.len() {
+        out[i] = n;
+    }
+}
+
+// Stores the kind and the position of each description from the start of out, as far as it goes.
+fn put_descriptions(descriptions: [Description; 32], out: &mut [u32])
+    ensures { λ _. ⌜ now (out .exit) ≡ put (now (out .entry)) 0 (listed descriptions) ⌝ }
+{
+    let mut i = 0;
+    while i < 32 {
+        let description = descriptions[i];
+        put_number(out, 2 * i, description.kind as u32);
+        put_number(out, 2 * i + 1, description.position);
+        i = i + 1;
+    }
+}
+
+// Opens a session with this packet at position 0. A refused opening returns the session given.
+pub fn open(
+    session: Session,
+    store: &mut [u8],
+    packet: &[u8],
+    threshold: u32,
+    sum_word: u16,
+) -> Answered
+    ensures { λ r. ⌜ Opens session (now (store .entry)) (now (packet .entry)) threshold «sum_word» (r .answer) (r .session) (now (store .exit)) ⌝ }
+{
+    let opened = reorder::open_or(session, store, packet, threshold, sum_word);
+    let answer = opened.answer;
+    let after = opened.session;
+    Answered {
+        answer: held_numbers(answer),
+        session: after,
+    }
+}
+
+// Holds the packet at its position, in the position's 1,080 bytes of the store.
+pub fn offer(session: Session, store: &mut [u8], packet: &[u8]) -> Answered
+    ensures { λ r. ⌜ Offers session (now (store .entry)) (now (packet .entry)) (r .answer) (r .session) (now (store .exit)) ⌝ }
+{
+    let offered = reorder::offer(session, store, packet);
+    let answer = offered.answer;
+    let after = offered.session;
+    Answered {
+        answer: held_numbers(answer),
+        session: after,
+    }
+}
+
+// Serves the next position.
+pub fn serve(session: Session, out: &mut [u8], store: &[u8]) -> Answered
+    ensures { λ r. ⌜ Serves session (now (out .entry)) (now (store .entry)) (r .answer) (r .session) (now (out .exit)) ⌝ }
+{
+    let served = reorder_serve::serve(session, out, store);
+    let answer = served.answer;
+    let after = served.session;
+    Answered {
+        answer: served_numbers(answer),
+        session: after,
+    }
+}
+
+// Serves until a serve waits or the budget is spent; the answers are described in the lent numbers, unless it is refused.
+pub fn drain(
+    session: Session,
+    out: &mut [u8],
+    store: &[u8],
+    budget: u32,
+    descriptions: &mut [u32],
+) -> Counted
+    ensures { λ r. ⌜ Drains session (now (out .entry)) (now (store .entry)) budget (now (descriptions .entry))
+        (r .answer) (r .session) (now (out .exit)) (now (descriptions .exit)) ⌝ }
+{
+    let drained = reorder_serve::drain(session, out, store, budget);
+    let after = drained.session;
+    let report = drained.answer;
+    let answer = report.answer;
+    let count = drained_numbers(answer);
+    let DrainAnswer::Count(_) = answer else {
+        return Counted {
+            answer: count,
+            session: after,
+        };
+    };
+    let described = report.descriptions;
+    put_descriptions(described, descriptions);
+    Counted {
+        answer: count,
+        session: after,
+    }
+}
+
+// Passes next over, by hand.
+pub fn pass(session: Session) -> Answered
+    ensures { λ r. ⌜ Passes session (r .answer) (r .session) ⌝ }
+{
+    let passed = reorder_serve::pass(session);
+    let answer = passed.answer;
+    let after = passed.session;
+    Answered {
+        answer: passed_numbers(answer),
+        session: after,
+    }
+}
