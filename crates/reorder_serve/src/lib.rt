@@ -36,7 +36,7 @@ pub struct Passed {
 
 // One answer of a drain: kind 0 none, 1 a packet, 2 a missing position.
 pub struct Description {
-    pub kind: u8,
+    pub kind: u32,
     pub position: u32,
 }
 
