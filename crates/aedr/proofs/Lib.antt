@@ -1,0 +1,5 @@
+pub mod Digits
+pub mod Texts
+pub mod Pieces
+pub mod Reports
+pub mod Whole

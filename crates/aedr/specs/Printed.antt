@@ -1,0 +1,37 @@
+-- Document 01, "Numbers to check by", Program: "cuts its input into 1,230-byte pieces, the last perhaps short (1), and prints each piece's
+-- number and its answer by the published sum place (0 if accepted), then a total."
+use Prim.Native.Nat.{ℕ, zero, suc, _+_, _*_, _/_}
+use mathlib.Core.List.{List, [], _∷_, _++_}
+use lib.ListN.{length, drop}
+use Rattle.octets.specs.Bytes.{part}
+use Rattle.packet.specs.Read.{readRefusal}
+use Rattle.aedr.specs.Decimal.{decimal}
+
+-- how many pieces the input has
+abbrev pub pieceCount : List ℕ → ℕ
+pieceCount input = (length input + 1229) / 1230
+
+-- piece i of the input, from 0; the last is perhaps short
+abbrev pub piece : List ℕ → ℕ → List ℕ
+piece input i = part input (1230 * i) 1230
+
+-- a piece's answer: its packet stands after 150 bytes of transport header, and the published sum place is word 70
+unfoldable pub answerOf : List ℕ → ℕ
+answerOf p = readRefusal (drop 150 p) 70
+
+-- "number answer", and the end of the line
+unfoldable pub line : ℕ → ℕ → List ℕ
+line number answer = decimal number ++ (32 ∷ (decimal answer ++ (10 ∷ [])))
+
+-- the lines of the first n pieces, the first of which has the number done + 1
+unfoldable pub lines : List ℕ → ℕ → ℕ → List ℕ
+lines input done zero = []
+lines input done (suc n) = lines input done n ++ line (done + suc n) (answerOf (piece input n))
+
+-- "records n", and the end of the line
+unfoldable pub total : ℕ → List ℕ
+total n = 114 ∷ 101 ∷ 99 ∷ 111 ∷ 114 ∷ 100 ∷ 115 ∷ 32 ∷ (decimal n ++ (10 ∷ []))
+
+-- all that is printed for an input
+abbrev pub printed : List ℕ → List ℕ
+printed input = lines input 0 (pieceCount input) ++ total (pieceCount input)
