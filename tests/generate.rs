@@ -1,0 +1,330 @@
+//! Random inputs: packets, fields, records and sessions, valid ones and damaged ones.
+
+use crate::mola::{Anchor, Session, Window};
+use crate::random::Random;
+use crate::reference::{packet_sum, Arrays, Fields, CARRIED, END, PACKET, RECORD};
+
+/// A sum word in range, its edges and the published one preferred.
+pub fn sum_word(random: &Random) -> usize {
+    match random.below(4) {
+        0 => random.pick(&[53, 54, 538, 539]),
+        1 => 70,
+        _ => random.within(53, 539) as usize,
+    }
+}
+
+/// A sum word out of range; some would be in range if bits of it were lost.
+pub fn wrong_sum_word(random: &Random) -> usize {
+    match random.below(3) {
+        0 => random.pick(&[0, 1, 52, 540, 541, usize::MAX, 1 << 63]),
+        1 => sum_word(random) + random.pick(&[1 << 10, 1 << 16, 1 << 32, 1 << 63]),
+        _ => random.next() as usize,
+    }
+}
+
+/// Mostly random bytes, else ones that make carries rare or frequent.
+fn contents(random: &Random, length: usize) -> Vec<u8> {
+    match random.below(8) {
+        0 => vec![0; length],
+        1 => vec![0xFF; length],
+        2 => {
+            let mut bytes = vec![0; length];
+            for _ in 0..random.below(8).min(length) {
+                bytes[random.below(length)] = random.u8();
+            }
+            bytes
+        }
+        _ => random.bytes(length),
+    }
+}
+
+/// An accepted packet.
+pub fn packet(random: &Random, count: u16, time: u32, sum_word: usize) -> Vec<u8> {
+    let mut packet = contents(random, PACKET);
+    packet[0] = random.u8() & 7;
+    packet[1] = 35;
+    packet[2..4].copy_from_slice(&(0xC000 | count).to_be_bytes());
+    packet[4..6].copy_from_slice(&1_073_u16.to_be_bytes());
+    packet[6..10].copy_from_slice(&time.to_be_bytes());
+    packet[11] = 0;
+    resum(&mut packet, sum_word);
+    packet
+}
+
+fn resum(packet: &mut [u8], sum_word: usize) {
+    let sum = packet_sum(packet, sum_word);
+    store_sum(packet, sum_word, sum);
+}
+
+fn store_sum(packet: &mut [u8], sum_word: usize, sum: u16) {
+    packet[2 * sum_word..2 * sum_word + 2].copy_from_slice(&sum.to_be_bytes());
+}
+
+pub fn count(random: &Random) -> u16 {
+    match random.below(4) {
+        0 => random.pick(&[0, 1, 16_380, 16_382, 16_383]),
+        _ => random.below(16_384) as u16,
+    }
+}
+
+/// Up to three defects of the header and then of the sum or the length: together they show the order of refusals.
+pub fn damage(random: &Random, packet: &mut Vec<u8>, sum_word: usize) {
+    for _ in 0..random.pick(&[1, 1, 2, 3]) {
+        damage_header(random, packet);
+    }
+    match random.below(4) {
+        0 => damage_sum(random, packet, sum_word),
+        1 => {}
+        _ => resum(packet, sum_word),
+    }
+    if random.once_in(12) {
+        let length = random.pick(&[0, 1, 105, 106, 1_079, 1_081, 2_000, 2_160]);
+        let length = random.pick(&[length, random.below(2_500)]);
+        packet.resize(length, random.u8());
+    }
+}
+
+/// One defect of the first twelve bytes, or none.
+fn damage_header(random: &Random, packet: &mut [u8]) {
+    match random.below(10) {
+        0 => packet[0] |= random.pick(&[0x20, 0x40, 0x80, 0xE0]),
+        1 => packet[0] |= 0x10,
+        2 => packet[0] |= 0x08,
+        3 => packet[1] = random.pick(&[34, 36, 0, 163, random.u8()]),
+        4 => packet[2] &= random.pick(&[0x3F, 0x7F, 0xBF]),
+        5 => {
+            let length = random.pick(&[1_072, 1_074, 1_079, 1_080, 0, 0x3104, 49, random.u16()]);
+            packet[4..6].copy_from_slice(&length.to_be_bytes());
+        }
+        6 => packet[11] = random.pick(&[1, 2, 3, 128, 255]),
+        7 => packet[random.below(12)] ^= 1 << random.below(8),
+        _ => {}
+    }
+}
+
+/// A sum that is wrong by one, or has its end carry added back, or a packet with a changed bit.
+fn damage_sum(random: &Random, packet: &mut [u8], sum_word: usize) {
+    let sum = packet_sum(packet, sum_word);
+    store_sum(packet, sum_word, sum);
+    match random.below(4) {
+        0 => store_sum(packet, sum_word, sum.wrapping_add(1)),
+        1 => store_sum(packet, sum_word, sum.wrapping_sub(1)),
+        2 => {
+            store_sum(packet, sum_word, 0);
+            let words = packet
+                .chunks_exact(2)
+                .map(|word| u32::from(word[0]) << 8 | u32::from(word[1]));
+            let whole: u32 = words.sum();
+            let carried = (whole & 0xFFFF) + (whole >> 16);
+            store_sum(
+                packet,
+                sum_word,
+                ((carried & 0xFFFF) + (carried >> 16)) as u16,
+            );
+        }
+        _ => packet[random.below(PACKET)] ^= 1 << random.below(8),
+    }
+}
+
+/// Any bytes for a packet, with a sum word to check them by.
+pub fn any_packet(random: &Random) -> (Vec<u8>, usize) {
+    let sum_word = sum_word(random);
+    if random.once_in(20) {
+        let length = random.pick(&[PACKET, PACKET, random.below(2_500)]);
+        return (random.bytes(length), sum_word);
+    }
+    let (count, time) = (count(random), random.u32());
+    let mut packet = packet(random, count, time, sum_word);
+    if !random.once_in(3) {
+        damage(random, &mut packet, sum_word);
+    }
+    match random.below(12) {
+        0 => (packet, wrong_sum_word(random)),
+        1 => (packet, self::sum_word(random)),
+        _ => (packet, sum_word),
+    }
+}
+
+/// The arguments of a write, with the length of the output that is lent to it.
+pub struct Write {
+    pub fields: Fields,
+    pub arrays: Arrays,
+    pub carried: Vec<u8>,
+    pub sum_word: usize,
+    pub room: usize,
+}
+
+/// No output of a write is longer.
+pub const LONGEST_ROOM: usize = 2_500;
+
+/// A write, in half the cases with a defect or two.
+pub fn write(random: &Random) -> Write {
+    let mut write = Write {
+        fields: fields(random),
+        arrays: Arrays {
+            temperatures: std::array::from_fn(|_| random.u8()),
+            readings: std::array::from_fn(|_| random.u8()),
+            bins: std::array::from_fn(|_| random.u8()),
+        },
+        carried: contents(random, CARRIED),
+        sum_word: sum_word(random),
+        room: PACKET,
+    };
+    let rooms = [
+        0,
+        1,
+        CARRIED,
+        PACKET - 1,
+        PACKET + 1,
+        2_160,
+        random.below(LONGEST_ROOM),
+    ];
+    let lengths = [0, 1, CARRIED - 1, CARRIED + 1, PACKET, 2_000];
+    for _ in 0..random.pick(&[0, 0, 1, 2]) {
+        match random.below(5) {
+            0 => write.fields.count = random.pick(&[16_384, 65_535, random.u16()]),
+            1 => write.fields.error_status = random.pick(&[8, 255, random.u8()]),
+            2 => write.carried.resize(random.pick(&lengths), 7),
+            3 => write.room = random.pick(&rooms),
+            _ => write.sum_word = wrong_sum_word(random),
+        }
+    }
+    write
+}
+
+fn fields(random: &Random) -> Fields {
+    Fields {
+        error_status: random.u8() & 7,
+        count: count(random),
+        coarse_time: random.u32(),
+        fine_time: random.u8(),
+        status_register: random.u8(),
+        software_version: random.u8(),
+        ram_flag_word: random.u16(),
+        status_word_1: random.u16(),
+        status_word_2: random.u16(),
+        software_checksum: random.u16(),
+        commands_received: random.u8(),
+        command_errors: random.u8(),
+        transmitter_threshold: random.u8(),
+        tracking_status: random.u8(),
+        hstart: random.u16(),
+    }
+}
+
+/// An accepted record.
+pub fn record(random: &Random) -> Vec<u8> {
+    let mut record = contents(random, RECORD);
+    let ones = u32::from_be_bytes([0, record[28] & 0x0F, record[29], record[30]]).count_ones();
+    record[31] = ones as u8;
+    let micros = random.pick(&[-999_999, 999_999, 0, random.within(-999_999, 999_999)]);
+    put_i32(&mut record, 4, micros);
+    let latitude = random.pick(&[
+        -90_000_000,
+        90_000_000,
+        0,
+        random.within(-90_000_000, 90_000_000),
+    ]);
+    put_i32(&mut record, 12, latitude);
+    record[490..492].copy_from_slice(&(random.within(1, 7) as u16).to_be_bytes());
+    record
+}
+
+fn put_i32(record: &mut [u8], at: usize, value: i64) {
+    record[at..at + 4].copy_from_slice(&(value as i32).to_be_bytes());
+}
+
+/// One defect of a record at a refusal's border or anywhere, or none.
+pub fn damage_record(random: &Random, record: &mut Vec<u8>) {
+    match random.below(8) {
+        0 => {
+            record[31] = random.pick(&[
+                record[31].wrapping_add(1),
+                record[31].wrapping_sub(1),
+                random.u8(),
+            ])
+        }
+        1 => record[28 + random.below(3)] ^= 1 << random.below(8),
+        2 => {
+            let far = random.pick(&[
+                i64::from(i32::MIN),
+                i64::from(i32::MAX),
+                random.next() as i64,
+            ]);
+            put_i32(record, 4, random.pick(&[-1_000_000, 1_000_000, far]));
+        }
+        3 => {
+            let far = random.pick(&[
+                i64::from(i32::MIN),
+                i64::from(i32::MAX),
+                random.next() as i64,
+            ]);
+            put_i32(record, 12, random.pick(&[-90_000_001, 90_000_001, far]));
+        }
+        4 => {
+            let index = random.pick(&[0, 8, 0x0100, 0x0701, 0xFFFF, random.u16()]);
+            record[490..492].copy_from_slice(&index.to_be_bytes());
+        }
+        5 => record[random.below(RECORD)] ^= 1 << random.below(8),
+        _ => {}
+    }
+}
+
+/// A session that no refusal 30 meets, with `next` given; marks of positions from END on are left out.
+pub fn session(random: &Random, next: u32) -> Session {
+    let marks = random.pick(&[0, u32::MAX, random.u32(), random.u32() & random.u32()]);
+    let servable = (next..next + 32).filter(|position| *position < END);
+    Session {
+        anchor: Anchor {
+            count: count(random),
+            time: random.u32() >> random.below(16),
+        },
+        sum_word: sum_word(random) as u16,
+        threshold: random.within(1, 31) as u32,
+        window: Window {
+            next,
+            marks: servable.map(|position| marks & 1 << (position % 32)).sum(),
+        },
+    }
+}
+
+/// Spoils one or two fields of a session; not every outcome is a broken one.
+pub fn spoil(random: &Random, session: &mut Session) {
+    for _ in 0..random.pick(&[1, 1, 2]) {
+        match random.below(7) {
+            0 => {
+                session.anchor.count = random.pick(&[16_384, 16_385, 32_768, 65_535, random.u16()])
+            }
+            1 => {
+                session.threshold =
+                    random.pick(&[0, 32, 33, u32::MAX, random.u32(), 1 << 16 | 3, 31])
+            }
+            2 => session.sum_word = random.pick(&[0, 52, 540, 65_535, random.u16(), 53, 539]),
+            3 => {
+                let far = random.pick(&[u32::MAX, u32::MAX - 31, random.u32()]);
+                session.window.next = random.pick(&[END, END + 1, END + 16, far]);
+            }
+            4 => session.window.next = END - random.below(34) as u32,
+            5 => {
+                session.window.marks = random.pick(&[1 << random.below(32), random.u32(), u32::MAX])
+            }
+            _ => *session = arbitrary_session(random),
+        }
+    }
+}
+
+/// Any values in every field.
+pub fn arbitrary_session(random: &Random) -> Session {
+    Session {
+        anchor: Anchor {
+            count: random.u16() >> random.below(16),
+            time: random.u32(),
+        },
+        sum_word: random.u16() >> random.below(16),
+        threshold: random.u32() >> random.below(32),
+        window: Window {
+            next: random.u32() >> random.below(32),
+            marks: random.u32() & random.u32() & random.u32(),
+        },
+    }
+}
