@@ -41,7 +41,7 @@ says turn {o} {s} {t} {b} {c} x {r} left numbers answer session bytes =
 
 -- ---- a drain
 
-count-said : (x : Said ℕ) → countSaid x ≡ drained x .count
+pub count-said : (x : Said ℕ) → countSaid x ≡ drained x .count
 count-said (refused n) = refl
 count-said (answered k) = refl
 
