@@ -12,6 +12,7 @@ ghost use Rattle.packet.specs.Read.{readRefusal, readSaid};
 ghost use Rattle.packet_writer.specs.Write.{writeRefusal, writeBytes};
 ghost use Rattle.pedr.specs.Read.{recordRefusal};
 ghost use Rattle.reorder_numbers.specs.Numbers.{Opens, Offers, Serves, Drains, Passes};
+ghost use Rattle.mola.specs.Layout.{StructLayouts};
 ghost use Rattle.mola.specs.Read.{noFields, inNumbers};
 
 // A packet's refusal number, or 0, and its fields, which are all zeros on a refusal.
@@ -174,3 +175,8 @@ pub extern "C" fn mola_pass(session: &mut Session) -> Answer
     *session = passed.session;
     passed.answer
 }
+
+// Where the fields of the structs lie that C and Rust share.
+pub fn struct_layouts()
+    ensures { λ _. ⌜ StructLayouts ⌝ }
+{}

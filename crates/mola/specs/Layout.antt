@@ -1,0 +1,40 @@
+-- The structs of numbers that other languages share with the exported functions, as they lie in memory: their sizes, and each field at its byte
+-- from 0, as C lays them out. The session's layout is in `reorder_lent`.
+use mathlib.Core.Path.{_≡_}
+use mathlib.Core.Option.{some}
+use mir.Syntax.{tyInt, w8, w16, w32}
+use prog.Memory.{size, align, fieldOf}
+use Rattle.packet.proofs.PacketFields.Laws as In-fields
+use Rattle.reorder_numbers.proofs.Answer.Laws as In-answer
+use Rattle.reorder_numbers.proofs.Count.Laws as In-count
+
+pub record StructLayouts : Type 0 where
+  -- a packet's fields
+  pub fields-size : size In-fields.mir ≡ 28
+  pub fields-aligned : align In-fields.mir ≡ 4
+  pub error-status : fieldOf In-fields.mir 0 ≡ some (tyInt w8, 0)
+  pub packet-count : fieldOf In-fields.mir 1 ≡ some (tyInt w16, 2)
+  pub coarse-time : fieldOf In-fields.mir 2 ≡ some (tyInt w32, 4)
+  pub fine-time : fieldOf In-fields.mir 3 ≡ some (tyInt w8, 8)
+  pub status-register : fieldOf In-fields.mir 4 ≡ some (tyInt w8, 9)
+  pub software-version : fieldOf In-fields.mir 5 ≡ some (tyInt w8, 10)
+  pub ram-flag-word : fieldOf In-fields.mir 6 ≡ some (tyInt w16, 12)
+  pub status-word-1 : fieldOf In-fields.mir 7 ≡ some (tyInt w16, 14)
+  pub status-word-2 : fieldOf In-fields.mir 8 ≡ some (tyInt w16, 16)
+  pub software-checksum : fieldOf In-fields.mir 9 ≡ some (tyInt w16, 18)
+  pub commands-received : fieldOf In-fields.mir 10 ≡ some (tyInt w8, 20)
+  pub command-errors : fieldOf In-fields.mir 11 ≡ some (tyInt w8, 21)
+  pub transmitter-threshold : fieldOf In-fields.mir 12 ≡ some (tyInt w8, 22)
+  pub tracking-status : fieldOf In-fields.mir 13 ≡ some (tyInt w8, 23)
+  pub hstart : fieldOf In-fields.mir 14 ≡ some (tyInt w16, 24)
+  -- an answer
+  pub answer-size : size In-answer.mir ≡ 12
+  pub answer-aligned : align In-answer.mir ≡ 4
+  pub answer-refusal : fieldOf In-answer.mir 0 ≡ some (tyInt w32, 0)
+  pub answer-kind : fieldOf In-answer.mir 1 ≡ some (tyInt w32, 4)
+  pub answer-position : fieldOf In-answer.mir 2 ≡ some (tyInt w32, 8)
+  -- a count
+  pub count-size : size In-count.mir ≡ 8
+  pub count-aligned : align In-count.mir ≡ 4
+  pub count-refusal : fieldOf In-count.mir 0 ≡ some (tyInt w32, 0)
+  pub count-count : fieldOf In-count.mir 1 ≡ some (tyInt w32, 4)
