@@ -1,8 +1,7 @@
-// The packet sum, added from the lent bytes in place. The words are added in blocks, which compile to wide moves.
+// The packet sum, added from the lent bytes in place.
 ghost use mathlib.Core.Path.{_≡_};
 ghost use Prim.Native.Nat.{_+_, _*_, _≤_, _<_, _%_};
-ghost use lib.ListN.{length, drop};
-ghost use Rattle.octets.specs.Bytes.{natAt, part};
+ghost use lib.ListN.{length, getD};
 ghost use Rattle.checksum.specs.Sum.{wordSum, packetSum};
 
 fn wide(x: u8) -> u16
@@ -11,71 +10,30 @@ fn wide(x: u8) -> u16
     x as u16
 }
 
-// The word that starts at byte i.
-fn word(bytes: &[u8], i: usize) -> u16
+// The two bytes from index i on, the lower half of a word and the upper half of the next, as they count in the sum.
+fn halves(bytes: &[u8], i: usize) -> u16
     requires { ⌜ i + 2 ≤ length (now bytes) ⌝ }
-    ensures { λ r. ⌜ r ≡ natAt (now (bytes .entry)) i 2 ⌝ }
+    ensures { λ r. ⌜ r ≡ getD (now (bytes .entry)) i 0 + getD (now (bytes .entry)) (i + 1) 0 * 256 ⌝ }
 {
-    wide(bytes[i]) * 256 + wide(bytes[i + 1])
+    wide(bytes[i]) + wide(bytes[i + 1]) * 256
 }
 
-// The sum of the 4 words from byte i.
-fn sum_of_4(bytes: &[u8], i: usize) -> u16
-    requires { ⌜ i + 8 ≤ length (now bytes) ⌝ }
-    ensures { λ r. ⌜ r ≡ wordSum (part (now (bytes .entry)) i 8) % 65536 ⌝ }
-{
-    let a = std::num::wrapping_add_u16(word(bytes, i), word(bytes, i + 2));
-    let b = std::num::wrapping_add_u16(word(bytes, i + 4), word(bytes, i + 6));
-    std::num::wrapping_add_u16(a, b)
-}
-
-// The sum of the 8 words from byte i.
-fn sum_of_8(bytes: &[u8], i: usize) -> u16
-    requires { ⌜ i + 16 ≤ length (now bytes) ⌝ }
-    ensures { λ r. ⌜ r ≡ wordSum (part (now (bytes .entry)) i 16) % 65536 ⌝ }
-{
-    let a = sum_of_4(bytes, i);
-    let b = sum_of_4(bytes, i + 8);
-    std::num::wrapping_add_u16(a, b)
-}
-
-// The sum of the 16 words from byte i.
-fn sum_of_16(bytes: &[u8], i: usize) -> u16
-    requires { ⌜ i + 32 ≤ length (now bytes) ⌝ }
-    ensures { λ r. ⌜ r ≡ wordSum (part (now (bytes .entry)) i 32) % 65536 ⌝ }
-{
-    let a = sum_of_8(bytes, i);
-    let b = sum_of_8(bytes, i + 16);
-    std::num::wrapping_add_u16(a, b)
-}
-
-// The sum of the words from byte start on, word by word.
-fn sum_by_words(bytes: &[u8], start: usize) -> u16
-    requires { ⌜ start ≤ length (now bytes) ⌝ }
-    ensures { λ r. ⌜ r ≡ wordSum (drop start (now (bytes .entry))) % 65536 ⌝ }
-{
-    let n = bytes.len();
-    let mut i = start;
-    let mut sum: u16 = 0;
-    while i < n {
-        sum = std::num::wrapping_add_u16(sum, octets::u16_at(bytes, i));
-        i = i + 2;
-    }
-    sum
-}
-
-// The sum of all words, carries out of 16 bits dropped.
+// The sum of all words, carries out of 16 bits dropped. After the first byte it takes the bytes in pairs that lie across two words: such a pair
+// is a number in the machine's own byte order, so that the loop compiles to wide loads and adds.
 fn words_sum(bytes: &[u8]) -> u16
     ensures { λ r. ⌜ r ≡ wordSum (now (bytes .entry)) % 65536 ⌝ }
 {
     let n = bytes.len();
-    let mut i: usize = 0;
-    let mut sum: u16 = 0;
-    while 32 <= n - i {
-        sum = std::num::wrapping_add_u16(sum, sum_of_16(bytes, i));
-        i = i + 32;
+    if n == 0 {
+        return 0;
     }
-    std::num::wrapping_add_u16(sum, sum_by_words(bytes, i))
+    let mut sum: u16 = wide(bytes[0]) * 256;
+    let mut i: usize = 1;
+    while 2 <= n - i {
+        sum = std::num::wrapping_add_u16(sum, halves(bytes, i));
+        i = i + 2;
+    }
+    std::num::wrapping_add_u16(sum, wide(octets::u8_at(bytes, i)))
 }
 
 // The packet sum of any bytes, with its place at any word: that word is taken as zero.

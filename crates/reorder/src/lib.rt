@@ -55,9 +55,13 @@ pub fn is_broken(session: Session) -> bool
 pub fn with_window(session: Session, window: Window) -> Session
     ensures { λ r. ⌜ r ≡ withWindow session window ⌝ }
 {
-    let mut after = session;
-    after.window = window;
-    after
+    let anchor = session.anchor;
+    Session {
+        anchor,
+        sum_word: session.sum_word,
+        threshold: session.threshold,
+        window,
+    }
 }
 
 // Where a packet is held, by its position: refusals 21 to 25, or the position.

@@ -1,61 +1,86 @@
--- The invariant: what is added so far and the words that are left make the whole.
-use Prim.Native.Nat.{_+_, _-_, _%_, _<_, _≤_}
-use mathlib.Core.Path.{_≡_, refl}
+-- The invariant: what is added so far and the words that are left, the first of them without its upper half, make the whole.
+use Prim.Native.Nat.{ℕ, _+_, _-_, _*_, _%_, _<_, _≤_}
+use mathlib.Core.Path.{_≡_, refl, sym, ap, _∙_}
 use lib.ListN.{length, drop}
 use native.Mathlib.Omega.{arith}
+use borrow.Author.Needs.{needs}
 use denote.Ref.{now}
-use Rattle.octets.specs.Bytes.{part}
 use Rattle.checksum.specs.Sum.{wordSum}
-use Rattle.checksum.proofs.Sum.{add-none, add-more, add-rest, sum-cut}
+use Rattle.checksum.proofs.Sum.{lowSum, sum-none, sum-first, low-pair, low-last, add-more}
 use Rattle.checksum.proofs.words_sum.Statement.{statement}
 use Rattle.checksum.proofs.words_sum.Tie as tie
 
 abbrev Inv-loop : tie.InvT-loop
-Inv-loop bytes n i₀ sum₀ i sum =
-    (n ≡ length bytes) × (i ≤ n) × (sum < 65536) × ((sum + wordSum (drop i bytes)) % 65536 ≡ wordSum bytes % 65536)
+Inv-loop bytes n sum₀ i₀ sum i =
+    (n ≡ length bytes) × (i ≤ n) × (sum < 65536) × ((sum + lowSum (drop i bytes)) % 65536 ≡ wordSum bytes % 65536)
 
 abbrev μ-loop : tie.MeasureT-loop
-μ-loop bytes n i₀ sum₀ i sum = n - i
+μ-loop bytes n sum₀ i₀ sum i = n - i
+
+returns : tie.Need-returns Inv-loop μ-loop
+returns c = sum-none (now (c .before .before .args .bytes)) (c .if1 .taken)
+
+shared-slice-read-wide : tie.Need-shared-slice-read-wide Inv-loop μ-loop
+shared-slice-read-wide c = search needs
+
+wide-requires : tie.Need-wide-requires Inv-loop μ-loop
+wide-requires c κs = search needs
+
+mul-sum : tie.Need-mul-sum Inv-loop μ-loop
+mul-sum c = search needs
 
 loop-holds : tie.Need-loop-holds Inv-loop μ-loop
-loop-holds c = (refl, omega arith, omega arith, add-none (wordSum (now (c .before .args .bytes))))
+loop-holds c =
+    let s = now (c .before .before .before .before .args .bytes) in (
+      refl,
+      omega arith,
+      omega arith,
+      ap (λ (n : ℕ). (n * 256 + lowSum (drop 1 s)) % 65536) (c .wide .ensures .0) ∙ sum-first s (omega arith),
+    )
 
 sub-loop : tie.Need-sub-loop Inv-loop μ-loop
-sub-loop c = omega arith
+sub-loop c = search needs
 
-sum-of-16-requires : tie.Need-sum-of-16-requires Inv-loop μ-loop
-sum-of-16-requires c κs = omega arith
+halves-requires : tie.Need-halves-requires Inv-loop μ-loop
+halves-requires c κs = search needs
 
 wrapping-add-u16-requires : tie.Need-wrapping-add-u16-requires Inv-loop μ-loop
-wrapping-add-u16-requires c κs = omega arith
+wrapping-add-u16-requires c κs = search needs
 
 add-i : tie.Need-add-i Inv-loop μ-loop
-add-i c = omega arith
+add-i c = search needs
 
 loop-less : tie.Need-loop-less Inv-loop μ-loop
-loop-less c = omega arith
+loop-less c = search needs
 
 loop-again : tie.Need-loop-again Inv-loop μ-loop
 loop-again c =
     let l = c .before .before .before .loop in
-    let s = now (c .before .before .before .before .before .args .bytes) in (
+    let s = now (c .before .before .before .before .before .before .before .before .args .bytes) in (
       refl,
       omega arith,
       omega (arith, c .wrapping-add-u16 .ensures),
-      add-more (wordSum (drop (l .i) s)) (wordSum (part s (l .i) 32)) (wordSum (drop (l .i + 32) s)) (l .sum) _ _ _
-          (sum-cut s (l .i) 32 refl (omega arith)) (c .before .sum-of-16 .ensures) (c .wrapping-add-u16 .ensures) (l .inv .3),
+      add-more _ _ (l .sum) (c .before .halves .result) _ _
+          (low-pair s (l .i) (omega arith) ∙ ap (λ (v : ℕ). v + lowSum (drop (l .i + 2) s)) (sym (c .before .halves .ensures)))
+          (c .wrapping-add-u16 .ensures) (l .inv .3),
     )
 
-sum-by-words-requires : tie.Need-sum-by-words-requires Inv-loop μ-loop
-sum-by-words-requires c κs = omega arith
+u8-at-requires : tie.Need-u8-at-requires Inv-loop μ-loop
+u8-at-requires c κs = search needs
+
+wide-requires-2 : tie.Need-wide-requires-2 Inv-loop μ-loop
+wide-requires-2 c κs = search needs
 
 wrapping-add-u16-requires-2 : tie.Need-wrapping-add-u16-requires-2 Inv-loop μ-loop
-wrapping-add-u16-requires-2 c κs = omega arith
+wrapping-add-u16-requires-2 c κs = search needs
 
-returns : tie.Need-returns Inv-loop μ-loop
-returns c =
-    let l = c .before .before .before .loop in
-    add-rest _ (l .sum) _ _ _ (c .before .sum-by-words .ensures) (c .wrapping-add-u162 .ensures) (l .inv .3)
+returns-2 : tie.Need-returns-2 Inv-loop μ-loop
+returns-2 c =
+    let l = c .before .before .before .before .loop in
+    let s = now (c .before .before .before .before .before .before .before .before .before .args .bytes) in
+    let e : c .before .wide2 .result ≡ lowSum (drop (l .i) s) =
+    c .before .wide2 .ensures .0 ∙ c .before .before .u8-at .ensures ∙ sym (low-last s (l .i) (omega arith)) in
+    c .wrapping-add-u162 .ensures ∙ ap (λ (n : ℕ). (l .sum + n) % 65536) e ∙ l .inv .3
 
 pub words-sum-spec : {M : Type 1} → statement M
 words-sum-spec =
@@ -63,13 +88,18 @@ words-sum-spec =
     (tie.spec
     Inv-loop
     μ-loop
+    returns
+    shared-slice-read-wide
+    wide-requires
+    mul-sum
     loop-holds
     sub-loop
-    sum-of-16-requires
+    halves-requires
     wrapping-add-u16-requires
     add-i
     loop-less
     loop-again
-    sum-by-words-requires
+    u8-at-requires
+    wide-requires-2
     wrapping-add-u16-requires-2
-    returns)
+    returns-2)
