@@ -50,7 +50,7 @@ static void pass(void) { answered = mola_pass(&session).refusal; }
 
 static void write_packet(void)
 {
-    answered = mola_write_packet(fields, &temperatures, &readings, &bins, carried, sizeof carried, MOLA_SUM_WORD, packet, sizeof packet);
+    answered = mola_write_packet(fields, temperatures, readings, bins, carried, sizeof carried, MOLA_SUM_WORD, packet, sizeof packet);
 }
 
 static void open_session(void)

@@ -226,16 +226,6 @@ fn write_head(fields: &Fields, arrays: &Arrays, out: &mut [u8; PACKET]) {
     out[104..106].copy_from_slice(&fields.hstart.to_be_bytes());
 }
 
-/// "The first bin's number is HSTART plus 0xFFFE, modulo 65,536, then with its lowest bit cleared."
-pub fn first_bin(hstart: u16) -> u16 {
-    hstart.wrapping_add(0xFFFE) & !1
-}
-
-/// "Bin j starts at (first + j) × 1,536 metres, and that sum does not wrap."
-pub fn bin_start(hstart: u16, bin: u8) -> u32 {
-    (u32::from(first_bin(hstart)) + u32::from(bin)) * 1_536
-}
-
 // ---- PEDR records
 
 /// "Record: 11 to 15." Document 01 counts record bytes from 1.
@@ -260,27 +250,6 @@ pub fn check_record(record: &[u8]) -> Result<(), Refusal> {
 /// "Bytes 29-31 are one number."
 fn quality(record: &[u8; RECORD]) -> u32 {
     u32_at(record, 28) >> 8
-}
-
-/// "Bit 20 - s is set for a good shot s (1 to 20)."
-pub fn is_good(record: &[u8; RECORD], shot: u32) -> bool {
-    quality(record) >> (20 - shot) & 1 == 1
-}
-
-/// "Time is whole × 1,000,000 + µs, exact."
-pub fn frame_time(record: &[u8; RECORD]) -> i64 {
-    i64::from(i32_at(record, 0)) * 1_000_000 + i64::from(i32_at(record, 4))
-}
-
-/// "Descriptor bit k (0 to 127) is bit k mod 8 of byte 48 - floor(k / 8)."
-pub fn descriptor_bit(record: &[u8; RECORD], bit: usize) -> bool {
-    record[47 - bit / 8] >> (bit % 8) & 1 == 1
-}
-
-/// "Encoder bytes are 621-640, one per shot." "Bits 0-1 are start, bits 4-5 stop, bit 0 the lowest."
-pub fn encoder(record: &[u8; RECORD], shot: usize) -> (u8, u8) {
-    let byte = record[620 + shot - 1];
-    (byte & 3, byte >> 4 & 3)
 }
 
 // ---- the reorder buffer (document 01's rack)
@@ -583,7 +552,7 @@ mod tests {
         record
     }
 
-    /// A session opened with count 16,380 at time 1,000,000, whose position 0 is then served.
+    /// A session opened with count 16,380 at time 1,000,000; position 0 is held.
     fn opened(threshold: u32, store: &mut [u8]) -> Session {
         let mut session = Session::default();
         let first = packet(16_380, 1_000_000, 53);
@@ -618,8 +587,6 @@ mod tests {
 
     #[test]
     fn bins() {
-        assert_eq!([7, 3, 2, 1].map(first_bin), [4, 0, 0, 65_534]);
-        assert_eq!(bin_start(1, 47), 65_581 * 1_536);
         let mut packet = packet(0, 0, 53);
         packet[57] = 1;
         packet[102] = 2;
@@ -647,30 +614,19 @@ mod tests {
     }
 
     #[test]
-    fn quality_of_shots() {
+    fn quality_counters() {
         let mut record = record();
         record[28..32].copy_from_slice(&[0x08, 0x00, 0x01, 2]);
         assert_eq!(check_record(&record), Ok(()));
-        assert!((1..=20).all(|shot| is_good(&record, shot) == (shot == 1 || shot == 20)));
         record[28..32].copy_from_slice(&[0x10, 0x00, 0x00, 0]);
         assert_eq!(check_record(&record), Ok(()));
     }
 
     #[test]
-    fn descriptor_and_encoder() {
-        let mut record = record();
-        record[46 - 1] = 1 << 7;
-        assert!((0..128).all(|bit| descriptor_bit(&record, bit) == (bit == 23)));
-        record[621 - 1] = 0x21;
-        assert_eq!(encoder(&record, 1), (1, 2));
-    }
-
-    #[test]
-    fn frame_times() {
+    fn microseconds() {
         let mut record = record();
         record[0..4].copy_from_slice(&(-187_606_958_i32).to_be_bytes());
         record[4..8].copy_from_slice(&(-864_490_i32).to_be_bytes());
-        assert_eq!(frame_time(&record), -187_606_958_864_490);
         assert_eq!(check_record(&record), Ok(()));
         record[4..8].copy_from_slice(&(-1_000_000_i32).to_be_bytes());
         assert_eq!(check_record(&record), Err(13));

@@ -12,7 +12,9 @@ _Static_assert(offsetof(struct mola_session, threshold) == 12, "place of thresho
 _Static_assert(offsetof(struct mola_session, window.next) == 16, "place of window.next");
 _Static_assert(offsetof(struct mola_session, window.marks) == 20, "place of window.marks");
 _Static_assert(sizeof(struct mola_fields) == 28, "size of the fields");
-_Static_assert(sizeof(struct mola_read) == 32, "size of a read");
+_Static_assert(offsetof(struct mola_fields, count) == 2 && offsetof(struct mola_fields, coarse_time) == 4, "places of count and time");
+_Static_assert(offsetof(struct mola_fields, ram_flag_word) == 12 && offsetof(struct mola_fields, hstart) == 24, "places of words");
+_Static_assert(sizeof(struct mola_read) == 32 && offsetof(struct mola_read, fields) == 4, "a read");
 _Static_assert(sizeof(struct mola_answer) == 12, "size of an answer");
 _Static_assert(sizeof(struct mola_count) == 8, "size of a count");
 
@@ -44,7 +46,7 @@ static void write_at(uint32_t position)
     struct mola_fields fields = {
         .error_status = 5, .count = (uint16_t)((16380 + position) % 16384), .coarse_time = 1000000 + 14 * position, .hstart = 7,
     };
-    EXPECT(mola_write_packet(fields, &temperatures, &readings, &bins, carried, sizeof carried, MOLA_SUM_WORD, packet, sizeof packet) == 0);
+    EXPECT(mola_write_packet(fields, temperatures, readings, bins, carried, sizeof carried, MOLA_SUM_WORD, packet, sizeof packet) == 0);
 }
 
 static int holds_packet(const uint8_t *bytes, uint32_t position)

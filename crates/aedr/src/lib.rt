@@ -8,7 +8,7 @@ ghost use Rattle.aedr.specs.Text.{TextAt};
 ghost use Rattle.aedr.specs.Printed.{pieceCount, piece as Printed·piece, answerOf, line, lines};
 ghost use Rattle.aedr.specs.Turns.{report as Turns·report, closing, TurnsPrintTheWhole};
 
-// The bytes of an AEDR record, of which a piece has as many or, the last, fewer.
+// The size of an AEDR record, and of each piece but a short last one.
 pub const PIECE: usize = 1230;
 
 // The bytes of its transport header; the packet stands after them.

@@ -1,5 +1,6 @@
 -- A published layout as data: a list of columns.
-use Prim.Native.Nat.{ℕ, _+_, _*_}
+use Prim.Native.Nat.{ℕ, _+_, _*_, _<_}
+use mathlib.Core.Path.{_≡_}
 use mathlib.Core.Bool.{Bool, true, false, _&&_}
 use mathlib.Core.List.{List, [], _∷_, _++_}
 use lib.Dec.{eqb, leb, ltb}
@@ -31,20 +32,27 @@ abbrev pub tiles : ℕ → ℕ → List Column → Bool
 tiles a b [] = eqb a b
 tiles a b (c ∷ cs) = eqb (c .start) a && tiles (a + size c) b cs
 
--- how many of the columns hold byte k
+-- 1 for true, 0 for false
 abbrev pub one : Bool → ℕ
 one true = 1
 one false = 0
 
+-- how many of the columns hold byte k
 unfoldable pub holders : ℕ → List Column → ℕ
 holders k [] = 0
 holders k (c ∷ cs) = one (leb (c .start) k && ltb k (c .start + size c)) + holders k cs
 
--- a number by its sign, and n of them
+-- the columns lie one after the other over the bytes from 0 to n - 1, and each of these is in one of them
+pub record Covers (n : ℕ) (cs : List Column) : Type 0 where
+  pub in-order : tiles 0 n cs ≡ true
+  pub once : (k : ℕ) → k < n → holders k cs ≡ 1
+
+-- the type of a column's numbers, by its sign
 abbrev pub Number : Sign → Type 0
 Number unsigned = ℕ
 Number complement = ℤ
 
+-- the number in w bytes from index i on by the sign, and n of them
 abbrev pub numberAt : (g : Sign) → List ℕ → ℕ → ℕ → Number g
 numberAt unsigned s i w = natAt s i w
 numberAt complement s i w = intAt s i w

@@ -3,7 +3,11 @@
 use mathlib.Core.Path.{_≡_}
 use mathlib.Core.Option.{some}
 use mir.Syntax.{tyInt, w8, w16, w32}
+use mir.Val.{vint, vstruct, vcons, vnil}
 use prog.Memory.{size, align, fieldOf}
+use Rattle.packet.specs.declared.PacketFields.{PacketFields}
+use Rattle.reorder_numbers.specs.declared.Answer.{Answer}
+use Rattle.reorder_numbers.specs.declared.Count.{Count}
 use Rattle.packet.proofs.PacketFields.Laws as In-fields
 use Rattle.reorder_numbers.proofs.Answer.Laws as In-answer
 use Rattle.reorder_numbers.proofs.Count.Laws as In-count
@@ -12,6 +16,24 @@ pub record StructLayouts : Type 0 where
   -- a packet's fields
   pub fields-size : size In-fields.mir ≡ 28
   pub fields-aligned : align In-fields.mir ≡ 4
+  -- the fields in their order
+  pub fields-order : (f : PacketFields) → In-fields.lowered f ≡ vstruct
+      (vcons (vint w8 (f .«error_status»))
+      (vcons (vint w16 (f .count))
+      (vcons (vint w32 (f .«coarse_time»))
+      (vcons (vint w8 (f .«fine_time»))
+      (vcons (vint w8 (f .«status_register»))
+      (vcons (vint w8 (f .«software_version»))
+      (vcons (vint w16 (f .«ram_flag_word»))
+      (vcons (vint w16 (f .«status_word_1»))
+      (vcons (vint w16 (f .«status_word_2»))
+      (vcons (vint w16 (f .«software_checksum»))
+      (vcons (vint w8 (f .«commands_received»))
+      (vcons (vint w8 (f .«command_errors»))
+      (vcons (vint w8 (f .«transmitter_threshold»))
+      (vcons (vint w8 (f .«tracking_status»))
+      (vcons (vint w16 (f .hstart)) vnil)))))))))))))))
+  -- and where each begins
   pub error-status : fieldOf In-fields.mir 0 ≡ some (tyInt w8, 0)
   pub packet-count : fieldOf In-fields.mir 1 ≡ some (tyInt w16, 2)
   pub coarse-time : fieldOf In-fields.mir 2 ≡ some (tyInt w32, 4)
@@ -30,11 +52,13 @@ pub record StructLayouts : Type 0 where
   -- an answer
   pub answer-size : size In-answer.mir ≡ 12
   pub answer-aligned : align In-answer.mir ≡ 4
+  pub answer-order : (a : Answer) → In-answer.lowered a ≡ vstruct (vcons (vint w32 (a .refusal)) (vcons (vint w32 (a .kind)) (vcons (vint w32 (a .position)) vnil)))
   pub answer-refusal : fieldOf In-answer.mir 0 ≡ some (tyInt w32, 0)
   pub answer-kind : fieldOf In-answer.mir 1 ≡ some (tyInt w32, 4)
   pub answer-position : fieldOf In-answer.mir 2 ≡ some (tyInt w32, 8)
   -- a count
   pub count-size : size In-count.mir ≡ 8
   pub count-aligned : align In-count.mir ≡ 4
+  pub count-order : (k : Count) → In-count.lowered k ≡ vstruct (vcons (vint w32 (k .refusal)) (vcons (vint w32 (k .count)) vnil))
   pub count-refusal : fieldOf In-count.mir 0 ≡ some (tyInt w32, 0)
   pub count-count : fieldOf In-count.mir 1 ≡ some (tyInt w32, 4)

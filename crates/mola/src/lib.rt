@@ -53,7 +53,7 @@ fn no_fields() -> PacketFields
     }
 }
 
-// The same with the packet's fields.
+// The refusal number of a packet whose sum stands at word sum_word, or 0, and its fields.
 #[no_mangle]
 pub extern "C" fn mola_read_packet(packet: &[u8], sum_word: usize) -> PacketNumbers
     ensures { λ r. ⌜ r ≡ inNumbers (readSaid (now (packet .entry)) «sum_word») ⌝ }

@@ -35,15 +35,6 @@ bit-zero n = ap (λ (x : ℕ). x % 2) (div-one n)
 pub bit-suc : (n k : ℕ) → bit n (suc k) ≡ bit (n / 2) k
 bit-suc n k = ap (bit n) (sym (one-add k)) ∙ ap (λ (x : ℕ). x % 2) (sym (shr-shr n 1 k))
 
--- two words of w bits with the same bits are the same word
-pub bits-ext : (w a b : ℕ) → a < 2 ^ w → b < 2 ^ w → ((j : ℕ) → j < w → bit a j ≡ bit b j) → a ≡ b
-bits-ext zero a b ha hb f = omega arith
-bits-ext (suc w) a b ha hb f =
-    let e : 2 ^ suc w ≡ 2 ^ w * 2 = pow-suc 2 w in
-    let halves : a / 2 ≡ b / 2 =
-    bits-ext w (a / 2) (b / 2) (omega arith) (omega arith) (λ j l. sym (bit-suc a j) ∙ f (suc j) (suc-le-suc l) ∙ bit-suc b j) in
-    omega (arith, bit-zero a, bit-zero b, f 0 (omega arith))
-
 -- a word of k bits has only zeros from bit k on
 pub bit-above : (n k j : ℕ) → n < 2 ^ k → k ≤ j → bit n j ≡ 0
 bit-above n k j h l = ap (λ (x : ℕ). x % 2) (div-eq-of-lt (lt-of-lt-of-le h (pow-mono l)))
@@ -144,28 +135,12 @@ one-shl w k h = shl-exact {a = 1} 1 k w (lit< tt) (omega arith) ∙ one-mul (2 ^
 pub and-pow : (n k : ℕ) → bitAnd n (2 ^ k) ≡ bit n k * 2 ^ k
 and-pow n k = ap (bitAnd n) (sym (high-ones 1 k ∙ one-mul (2 ^ k))) ∙ and-high n 1 k
 
--- `n & (1 << k) != 0` asks whether bit k is set
-pub mask-test : (n k : ℕ) → not (eqb (bitAnd n (2 ^ k)) 0) ≡ eqb (bit n k) 1
-mask-test n k = ap (λ (x : ℕ). not (eqb x 0)) (and-pow n k) ∙ go (bit n k) (bit-lt n k)
-  where
-    go : (d : ℕ) → d < 2 → not (eqb (d * 2 ^ k) 0) ≡ eqb d 1
-    go zero l = ap (λ (x : ℕ). not (eqb x 0)) (zero-mul (2 ^ k))
-    go (suc zero) l = ap not (ne-eqb (1 * 2 ^ k) 0 (λ e. omega (arith, pow-pos k)))
-    go (suc (suc d)) l = absurd (omega arith)
-
 -- `n & !(1 << k)` clears bit k, and `n | (1 << k)` sets it
 pub clear-bit : (w n k : ℕ) → n < 2 ^ w → k < w → bitAnd n ((2 ^ w - 1) - 2 ^ k) ≡ clearBit n k
 clear-bit w n k h l = omega (arith, and-not w n (2 ^ k) h (pow-lt l), and-pow n k)
 
 pub set-bit : (n k : ℕ) → bitOr n (2 ^ k) ≡ setBit n k
 set-bit n k = omega (arith, or-add-and n (2 ^ k), and-pow n k, and-le-l n (2 ^ k))
-
--- a word of w bits stays one, with a bit cleared or set
-pub clear-lt : (w n k : ℕ) → n < 2 ^ w → clearBit n k < 2 ^ w
-clear-lt w n k h = omega arith
-
-pub set-lt : (w n k : ℕ) → n < 2 ^ w → k < w → setBit n k < 2 ^ w
-set-lt w n k h l = subst (λ (x : ℕ). x < 2 ^ w) (set-bit n k) (or-lt w n (2 ^ k) h (pow-lt l))
 
 -- with bit k set, that bit is 1 and each other bit is as it was
 pub bit-set-same : (n k : ℕ) → bit (setBit n k) k ≡ 1
@@ -207,11 +182,7 @@ ones-bits n (suc k) =
     ∙ ap₂ (λ (x y : ℕ). x + y) (ones-digit (bit n k) (bit-lt n k)) (ones-bits n k)
     ∙ add-comm (bit n k) (bitsSet n k)
 
--- ---- numbers side by side, and masks of low bits
-
--- `a << k | b` in w bits is the number whose high part is a and whose k low bits are b
-pub cat : (j k w a b : ℕ) → a < 2 ^ j → j + k ≤ w → b < 2 ^ k → bitOr (a * 2 ^ k % 2 ^ w) b ≡ a * 2 ^ k + b
-cat j k w a b ha l hb = ap (λ (x : ℕ). bitOr x b) (shl-exact j k w ha l) ∙ or-shifted a k b hb
+-- ---- masks of low bits
 
 -- the masks that a program writes out take a remainder
 pub and-one : (n : ℕ) → bitAnd n 1 ≡ n % 2
@@ -219,9 +190,3 @@ and-one n = and-mask n 1
 
 pub and-three : (n : ℕ) → bitAnd n 3 ≡ n % 4
 and-three n = and-mask n 2
-
-pub and-seven : (n : ℕ) → bitAnd n 7 ≡ n % 8
-and-seven n = and-mask n 3
-
-pub and-byte : (n : ℕ) → bitAnd n 255 ≡ n % 256
-and-byte n = and-mask n 8

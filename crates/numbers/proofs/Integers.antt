@@ -136,14 +136,6 @@ module _ (x y : ℤ) where
 -- difference, multiple and |x| that stands in them: `omega (ints, plus x y, abs-sum z)`.
 pub ruleset ints = (arith, same, equal, le-true, le-false, lt-true, lt-false, le-yes, le-no, lt-yes, lt-no, ≤ℤ-sides, sides-≤ℤ)
 
--- a test of two integers is that of two natural numbers which differ by as much
-pub le-as : (x y : ℤ) (n m : ℕ) → up y + down x + n ≡ up x + down y + m → leZ x y ≡ leb n m
-le-as x y n m h = go (leb n m) refl
-  where
-    go : (t : Bool) → leb n m ≡ t → leZ x y ≡ t
-    go true e = omega (ints, leb-true)
-    go false e = omega (ints, leb-false)
-
 -- ---- x from -n to n
 
 module _ (x : ℤ) (n : ℕ) where

@@ -40,9 +40,6 @@ quot-fits w m (negsuc a) f =
     (omega (arith, up-neg (pos (suc a / m)), f .sfits))
     (omega (arith, down-neg (pos (suc a / m)), div-le-self (suc a) m, f .sfits))
 
-pub floor-fits : (w : Width) (m : ℕ) (x : ℤ) → SFits w x → SFits w (shrZ x m)
-floor-fits w m x f = sfits-le (mag-shr x m) f
-
 -- what the machine reads back from the bits of a number that fits, fits
 pub reread : {w : Width} {x : ℤ} → SFits w x → SFits w (toZ w (ofZ w x))
 reread {w} {x} f = subst (SFits w) (sym (toZ-ofZ w x f)) f

@@ -16,13 +16,6 @@ pub nat-suc : (s : List ℕ) (i n : ℕ) → natAt s i (suc n) ≡ natAt s i n *
 nat-suc s i zero = simp add-zero (omega arith)
 nat-suc s i (suc n) = refl
 
--- past the end every number is 0
-pub nat-past : (s : List ℕ) (i n : ℕ) → length s ≤ i → natAt s i n ≡ 0
-nat-past s i zero h = refl
-nat-past s i (suc n) h =
-    let b : getD s (i + n) 0 ≡ 0 = List·getD-eq-default s 0 (omega arith) in
-    nat-suc s i n ∙ omega (arith, nat-past s i n h)
-
 -- a number of n bytes is below 256^n
 pub nat-lt : (s : List ℕ) (i n : ℕ) → Octets s → natAt s i n < 256 ^ n
 nat-lt s i zero o = omega (arith, pow-zero 256)

@@ -7,7 +7,7 @@ use lib.Dec.{eqb}
 use lib.ListN.{length}
 use Rattle.octets.specs.Bytes.{octetsOf, put, Octets}
 use Rattle.octets.specs.Refusal.{refuse_unless_else_, _then_, Said, answered, say, after}
-use Rattle.layout.specs.Column.{holders}
+use Rattle.layout.specs.Column.{Covers}
 use Rattle.checksum.specs.Sum.{packetSum}
 use Rattle.packet.specs.Layout.{packetColumns}
 use Rattle.packet.specs.Fields.{fieldsOf, arraysOf, carriedOf, noArrays}
@@ -16,9 +16,9 @@ use Rattle.packet.specs.declared.PacketFields.{PacketFields}
 use Rattle.packet.specs.declared.PacketArrays.{PacketArrays}
 use Rattle.packet_writer.specs.Write.{packetOf, writeRefusal}
 
--- the packet's table holds each of the 1,080 bytes once
-abbrev pub Covers : Type 0
-Covers = (k : ℕ) → k < 1080 → holders k packetColumns ≡ 1
+-- the packet's table covers its 1,080 bytes
+abbrev pub LayoutCovers : Type 0
+LayoutCovers = Covers 1080 packetColumns
 
 -- what the types of the fields and arrays say of their values, as far as a round trip needs it: a field of one byte is its own byte, and
 -- refusal 17 bounds the error status

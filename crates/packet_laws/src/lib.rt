@@ -7,11 +7,11 @@ use packet_writer::PacketWritten;
 ghost use mathlib.Core.Path.{_≡_};
 ghost use Rattle.packet.specs.Read.{said};
 ghost use Rattle.packet_writer.specs.Write.{saidWritten, writeBytes};
-ghost use Rattle.packet_laws.specs.RoundTrip.{Covers, ReadsBack, WritesBack, copySaid, copyBytes, echoSaid, echoArrays};
+ghost use Rattle.packet_laws.specs.RoundTrip.{LayoutCovers, ReadsBack, WritesBack, copySaid, copyBytes, echoSaid, echoArrays};
 
 // Each byte of the packet stands in exactly one column of its table.
 pub fn layout_covers()
-    ensures { λ _. ⌜ Covers ⌝ }
+    ensures { λ _. ⌜ LayoutCovers ⌝ }
 {}
 
 // Reading what was written gives the fields back.

@@ -92,7 +92,7 @@ fn status_bytes(f: PacketFields) -> [u8; 14]
     ]
 }
 
-// The place from byte 56 of the bin whose bytes are swapped to place k: the other place of k's pair.
+// The other index of k's pair: byte k of the histogram holds that bin.
 fn partner(k: usize) -> usize
     requires { ⌜ k < 48 ⌝ }
     ensures { λ r. ⌜ (r ≡ binByte k - 56) × (r < 48) ⌝ }
@@ -113,7 +113,7 @@ fn histogram_bytes(bins: [u8; 48]) -> [u8; 48]
     bytes
 }
 
-// All bytes of the packet, the carried ones as they came at the sum's word.
+// Stores the packet but for its sum: at the sum's word the carried bytes stand as given.
 fn write_unsummed(
     f: PacketFields,
     temperatures: [u8; 16],

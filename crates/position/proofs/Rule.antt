@@ -120,13 +120,6 @@ module _ (anchor : Anchor) (c t tolerance : ℕ) where
   abbrev times-apart : ℤ
   times-apart = pos t -ℤ pos (anchor .time)
 
-  -- a position is answered, or 21, and nothing else
-  pub answered-or-21 : ((p : ℤ) × (position anchor c t tolerance ≡ answered p)) ⊎ (position anchor c t tolerance ≡ refused 21)
-  unfolding position
-  answered-or-21 =
-      ⊎-elim (λ e. inl (tried counts-apart times-apart tolerance, e)) inr
-      (decided counts-apart times-apart tolerance (near counts-apart times-apart tolerance) refl)
-
   -- the rule, below the tolerance where two could fit
   module _ (small : 2 * tolerance < 229376) where
     pub the-position : (p : ℤ) → (position anchor c t tolerance ≡ answered p) ↔ IsPositionOf anchor c t tolerance p

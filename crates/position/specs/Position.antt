@@ -24,7 +24,7 @@ pub record IsPosition (counted elapsed : ℤ) (tolerance : ℕ) (p : ℤ) : Type
 abbrev pub latest : ℤ → ℤ → ℕ → ℤ
 latest counted elapsed tolerance = counted +ℤ pos 16384 *ℤ shrZ (elapsed +ℤ pos tolerance -ℤ pos 14 *ℤ counted) 229376
 
--- That p where its clock is near enough; 21: no position fits. `Rule.antt` proves that this is the rule.
+-- That p where its clock is near enough; 21: no position fits. `Rule` says that this is the rule.
 abbrev pub fitting : ℤ → ℤ → ℕ → Said ℤ
 fitting counted elapsed tolerance =
     say

@@ -69,7 +69,7 @@ firstWindow = record { next = 0; marks = 1 }
 abbrev pub opened : PacketFields → ℕ → ℕ → Session
 opened f h w = record { anchor = record { count = f .count; time = f .«coarse_time» }; «sum_word» = w; threshold = h; window = firstWindow }
 
--- 20, 27: patience not 1 to 31; store, of this size, not 34,560 bytes. Then the reader's 1 to 10
+-- 20, 27: threshold not 1 to 31; store, of this size, not 34,560 bytes. Then the reader's 1 to 10
 unfoldable pub openRefusal : ℕ → List ℕ → ℕ → ℕ → ℕ
 openRefusal size b h w =
     refuse 20 unless within 1 31 h else

@@ -4,6 +4,8 @@ use position::Anchor;
 use position::Located;
 use window::Window;
 ghost use mathlib.Core.Path.{_≡_};
+ghost use lib.ListN.{length};
+ghost use Rattle.octets.specs.Bytes.{put};
 ghost use Rattle.position.specs.Position as at;
 ghost use Rattle.reorder.specs.Session.{pastEnd, broken, withWindow};
 ghost use Rattle.reorder.specs.Offer.{said, placed, offerSaid, openOf, offerOf, noSession};
@@ -110,6 +112,14 @@ fn judge(session: Session, store_size: usize, packet: &[u8]) -> OfferAnswer
     place(session.window, located)
 }
 
+// Stores an accepted packet in the store. Its length is told, so that the copy compiles to wide moves.
+fn put_packet(packet: &[u8], at: usize, store: &mut [u8])
+    requires { ⌜ length (now packet) ≡ 1080 ⌝ }
+    ensures { λ _. ⌜ now (store .exit) ≡ put (now (store .entry)) at (now (packet .entry)) ⌝ }
+{
+    octets::write_into(&packet[..1080], at, store);
+}
+
 // Holds the packet at its position, in the position's 1,080 bytes of the store.
 pub fn offer(session: Session, store: &mut [u8], packet: &[u8]) -> Offered
     ensures { λ r. ⌜ (said (r .answer) ≡ offerOf session (now (store .entry)) (now (packet .entry)) .said)
@@ -120,7 +130,7 @@ pub fn offer(session: Session, store: &mut [u8], packet: &[u8]) -> Offered
     let OfferAnswer::Held(p) = answer else {
         return Offered { answer, session };
     };
-    octets::write_into(packet, 1080 * (p % 32) as usize, store);
+    put_packet(packet, 1080 * (p % 32) as usize, store);
     let window = window::hold(session.window, p);
     Offered {
         answer,
@@ -165,7 +175,7 @@ pub fn open_or(
             session,
         };
     };
-    octets::write_into(packet, 0, store);
+    put_packet(packet, 0, store);
     let anchor = Anchor {
         count: fields.count,
         time: fields.coarse_time,

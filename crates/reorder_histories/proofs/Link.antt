@@ -1,4 +1,4 @@
--- The relation between the less patient reorder buffer a and the more patient one b that every turn and every offer keeps.
+-- The relation between a reorder buffer a and one with a threshold no lower, b, that every turn and every offer keeps.
 use Prim.Native.Nat.{ℕ, _+_, _≤_, _<_}
 use mathlib.Core.Path.{_≡_, sym, ap, _∙_, subst}
 use mathlib.Core.Bool.{true, false, true≢false}
@@ -42,7 +42,7 @@ pub record Alike (s t : Session) : Type 0 where
   pub words : s .«sum_word» ≡ t .«sum_word»
   pub thresholds : s .threshold ≤ t .threshold
 
--- up to f, a has served or called missing what it will, or holds it and serves it next; from f on both hold the same
+-- f is the frontier: up to it a has served or called missing what it will, or holds it and serves it next; from f on both hold the same
 pub record Link (f : ℕ) (a b : State) : Type 0 where
   pub buffer-a : Buffer a
   pub buffer-b : Buffer b
@@ -100,7 +100,7 @@ alike-b s t k =
       thresholds = omega (arith, e .same-threshold, k .thresholds);
     }
 
--- ---- the less patient one takes a turn
+-- ---- the one with the lower threshold takes a turn
 
 -- what a turn gives is next, and was held
 pub gave-held : (s : Session) (t : Turn) → Shows s t → (p : ℕ) → t ≡ packet p → (s .window .next ≡ p) × (heldAt (s .window) p ≡ true)
@@ -180,7 +180,7 @@ module _ (f : ℕ) (a b : State) (lk : Link f a b) where
         },
       )
 
--- ---- the more patient one takes a turn
+-- ---- the one with the higher threshold takes a turn
 
 -- what a turn calls missing is next, and was not held
 missed : (s : Session) (t : Turn) → Shows s t → (p : ℕ) → t ≡ missing p
@@ -240,7 +240,7 @@ module _ (f : ℕ) (a b : State) (lk : Link f a b) (quiet : Quiet f a) where
 
 -- ---- an offer is taken
 
--- only the more patient one takes it, before the frontier
+-- only the one with the higher threshold takes it, before the frontier
 pub take-b : (f : ℕ) (a b : State) (p : ℕ) (x : List ℕ) → Link f a b → p < f → Takes b p x → Link f a (takes b p x)
 take-b f a b p x lk l tk =
     record {

@@ -146,7 +146,7 @@ atStart c b word = start (opening c b word) b
 abbrev pub atEnd : Consumer → List ℕ → ℕ → State
 atEnd c b word = run (atStart c b word) (c .calls)
 
--- less is the less patient one, more the more patient one
+-- less is the one with the lower threshold, more the one with the higher
 pub record OpenedAlike (less more : Consumer) (b : List ℕ) (word : ℕ) : Type 0 where
   -- "Both openings are accepted, with the same packet and sum's place, each with a store of its own, whatever that held."
   pub less-accepted : opening less b word .said ≡ answered 0

@@ -11,6 +11,7 @@ use Rattle.reorder.specs.declared.Session.{Session}
 use Rattle.reorder.specs.Outcome.{Outcome, outcome}
 use Rattle.reorder.specs.Session.{withWindow, slotStart}
 use Rattle.reorder.specs.Offer.{offerSaid, offerOf, opened, openSaid, openOf}
+use Rattle.reorder.proofs.Said.{left-refused}
 use Rattle.reorder_serve.specs.Turn.{Turn, turn, turned, shown, turns, turnedAll, shownAll}
 use Rattle.reorder_serve.specs.Serve.{serveRefusal, serveOf, drainRefusal, drainOf, counted, passRefusal, passOf}
 use Rattle.reorder_lent.specs.Lent.{ComesTo, counting}
@@ -24,8 +25,7 @@ abbrev pub RefusalLeaves : {A : Type 0} → Outcome A → Session → List ℕ �
 RefusalLeaves o s b = (n : ℕ) → o .said ≡ refused n → (o .session ≡ s) × (o .bytes ≡ b)
 
 outcome-refusal : {A : Type 0} (x : Said A) (s : Session) (b : List ℕ) (f : A → Session) (g : A → List ℕ) → RefusalLeaves (outcome x s b f g) s b
-outcome-refusal (refused m) s b f g n e = (refl, refl)
-outcome-refusal {A} (answered a) s b f g n e = absurd (subst (λ (x : Said A). Refused x) (sym e) tt)
+outcome-refusal x s b f g = left-refused x s b f g
 
 pub open-refusal : (s : Session) (b p : List ℕ) (h w : ℕ) → RefusalLeaves (openOf s b p h w) s b
 unfolding openOf

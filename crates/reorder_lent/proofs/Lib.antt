@@ -6,3 +6,4 @@ pub mod Promises
 pub mod Walk
 pub mod Comes
 pub mod Calls
+pub mod Says

@@ -6,16 +6,8 @@ use native.Mathlib.Omega.{arith}
 use lib.ListN.{length}
 use Rattle.octets.specs.Refusal.{Said, refused, answered, say}
 use Rattle.reorder.specs.declared.Session.{Session}
-use Rattle.reorder.specs.declared.OfferAnswer.{OfferAnswer}
-use Rattle.reorder.specs.declared.OfferAnswer.the-variants as Of
 use Rattle.reorder.specs.Outcome.{outcome}
 use Rattle.reorder.specs.Offer.{said, openOf, offerOf}
-use Rattle.reorder_serve.specs.declared.ServeAnswer.{ServeAnswer}
-use Rattle.reorder_serve.specs.declared.ServeAnswer.the-variants as Sv
-use Rattle.reorder_serve.specs.declared.DrainAnswer.{DrainAnswer}
-use Rattle.reorder_serve.specs.declared.DrainAnswer.the-variants as Dr
-use Rattle.reorder_serve.specs.declared.PassAnswer.{PassAnswer}
-use Rattle.reorder_serve.specs.declared.PassAnswer.the-variants as Ps
 use Rattle.reorder_serve.specs.declared.Report.{Report}
 use Rattle.reorder_serve.specs.Turn.{Turn, packet, missing, waiting, turns, turnedAll, shownAll}
 use Rattle.reorder_serve.specs.Serve.{serveSaid, serveOf, drainSaid, drainRefusal, drainOf, counted, descriptions, countSaid, passSaid, passOf}
@@ -23,28 +15,9 @@ use Rattle.reorder_serve.proofs.Turns.{counted-next}
 use Rattle.reorder_histories.specs.Histories.{Call, offer, serve, drain, pass, offerTells, serveTells, drainTells, passTells, State, step, run, Consumer, atStart, atEnd}
 use Rattle.reorder_steps.proofs.Steps.{reads-back}
 use Rattle.reorder_lent.specs.Lent.{Drains}
+use Rattle.reorder_lent.proofs.Says.{offer-says, serve-says, drain-says, pass-says}
 use Rattle.reorder_lent.proofs.Comes.{open-refusal, offer-refusal, serve-refusal, drain-refusal, pass-refusal, pass-bytes, comes}
 use Rattle.reorder_lent_steps.specs.LentCalls.{LentCall, LentCalls, LentConsumer}
-
--- ---- what is said is said by an answer
-
-offer-says : (x : Said ℕ) → (r : OfferAnswer) × (said r ≡ x)
-offer-says (refused n) = (Of.Refused n, refl)
-offer-says (answered p) = (Of.Held p, refl)
-
-serve-says : (x : Said Turn) → (r : ServeAnswer) × (serveSaid r ≡ x)
-serve-says (refused n) = (Sv.Refused n, refl)
-serve-says (answered (packet p)) = (Sv.Packet p, refl)
-serve-says (answered (missing p)) = (Sv.Missing p, refl)
-serve-says (answered waiting) = (Sv.Waiting, refl)
-
-drain-says : (x : Said ℕ) → (r : DrainAnswer) × (drainSaid r ≡ x)
-drain-says (refused n) = (Dr.Refused n, refl)
-drain-says (answered n) = (Dr.Count n, refl)
-
-pass-says : (x : Said ℕ) → (r : PassAnswer) × (passSaid r ≡ x)
-pass-says (refused n) = (Ps.Refused n, refl)
-pass-says (answered p) = (Ps.Missing p, refl)
 
 -- ---- a drain's count
 

@@ -45,7 +45,7 @@ tabled (answered ts) old = put old 0 (listed (describedAll ts))
 
 -- ---- the calls: each answers r, and leaves the session t and, in what it is lent to write, the bytes c
 
--- a call that comes to o says r, which is x in numbers with the refusal n, and leaves t and c; a refusal leaves the session s and the bytes b
+-- a call that comes to o answers r, which is x, with the refusal number n, and leaves t and c; where n isn't 0, these are the session s and the bytes b
 pub record Says {A B : Type 0} (o : Outcome A) (s : Session) (b : List ℕ) (r x : B) (n : ℕ) (t : Session) (c : List ℕ) : Type 0 where
   pub answer : r ≡ x
   pub session : t ≡ o .session

@@ -21,9 +21,6 @@ use Rattle.window.proofs.Held.{held-inside, held-least, held-most, held
 abbrev pub rotated : ℕ → ℕ → ℕ
 rotated m k = bitOr (m / 2 ^ k) (m * 2 ^ ((32 - k) % 32) % 2 ^ 32)
 
-pub rotated-lt : (m k : ℕ) → m < 2 ^ 32 → rotated m k < 2 ^ 32
-rotated-lt m k h = or-lt 32 (m / 2 ^ k) (m * 2 ^ ((32 - k) % 32) % 2 ^ 32) (omega (arith, shr-le m k)) (omega arith)
-
 pub rotated-bit : (m k j : ℕ) → m < 2 ^ 32 → k < 32 → j < 32 → bit (rotated m k) j ≡ bit m ((k + j) % 32)
 rotated-bit m k j hm hk hj =
     bit-or (m / 2 ^ k) (m * 2 ^ ((32 - k) % 32) % 2 ^ 32) j

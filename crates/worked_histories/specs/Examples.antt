@@ -1,6 +1,6 @@
 -- Document 01, "The lists of demand 3": two pairs of consumers that meet all that demand 3 supposes, and to which the threshold makes a
--- difference. In the first pair position 1 comes after position 2: the less patient one has called it missing, the more patient one serves it.
--- In the second it never comes, and both call it missing, the more patient one after position 5 has come, which it still holds at the end.
+-- difference. In the first pair position 1 comes after position 2: the one with the lower threshold has called it missing, the other serves it.
+-- In the second it never comes, and both call it missing, the one with the higher threshold after position 5 has come, which it still holds at the end.
 use Prim.Native.Nat.{ℕ, _*_}
 use mathlib.Core.Path.{_≡_}
 use mathlib.Core.List.{List, [], _∷_}

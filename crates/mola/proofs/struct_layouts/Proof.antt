@@ -8,6 +8,7 @@ returns c =
     record {
       fields-size = refl;
       fields-aligned = refl;
+      fields-order = λ f. refl;
       error-status = refl;
       packet-count = refl;
       coarse-time = refl;
@@ -25,11 +26,13 @@ returns c =
       hstart = refl;
       answer-size = refl;
       answer-aligned = refl;
+      answer-order = λ a. refl;
       answer-refusal = refl;
       answer-kind = refl;
       answer-position = refl;
       count-size = refl;
       count-aligned = refl;
+      count-order = λ k. refl;
       count-refusal = refl;
       count-count = refl;
     }

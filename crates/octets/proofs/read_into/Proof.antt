@@ -10,8 +10,6 @@ use Rattle.octets.proofs.Read.{past-end}
 use Rattle.octets.proofs.read_into.Statement.{statement}
 use Rattle.octets.proofs.read_into.Tie as tie
 
--- One law of loops that fill a list, at the bytes from index i on.
-
 abbrev Inv-loop : tie.InvT-loop
 Inv-loop bytes i out₀ from k₀ out k = (from ≡ min i (length bytes)) × (length out ≡ length out₀) × Filled (λ k. getD bytes (i + k) 0) out₀ out k
 

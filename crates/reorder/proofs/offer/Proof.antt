@@ -2,6 +2,8 @@
 use mathlib.Core.Path.{sym, ap, _∙_}
 use Rattle.reorder.specs.Session.{withWindow}
 use Rattle.reorder.specs.Offer.{said, offerOf}
+use Rattle.packet.proofs.Accept.{accepted}
+use Rattle.reorder.proofs.Taken.{taken-offer}
 use Rattle.reorder.proofs.Said.{stays, leaves}
 use borrow.Author.Needs.{needs}
 use Rattle.reorder.proofs.offer.Statement.{statement}
@@ -24,14 +26,16 @@ returns c =
     let k = stays _ _ _ _ _ _ e in
     (ap said (c .enum-told .given .1) ∙ k .0, k .1)
 
-cast-write-into : tie.Need-cast-write-into
-cast-write-into c = search needs
+cast-put-packet : tie.Need-cast-put-packet
+cast-put-packet c = search needs
 
-mul-write-into : tie.Need-mul-write-into
-mul-write-into c = search needs
+mul-put-packet : tie.Need-mul-put-packet
+mul-put-packet c = search needs
 
-write-into-requires : tie.Need-write-into-requires
-write-into-requires c κs = search needs
+put-packet-requires : tie.Need-put-packet-requires
+put-packet-requires c κs =
+    let e = ap said (sym (c .before .before .answer .given .1)) ∙ c .before .before .before .before .judge .ensures in
+    accepted _ _ (taken-offer _ _ _ _ (sym e) .read) .size
 
 hold-requires : tie.Need-hold-requires
 hold-requires c κs = search needs
@@ -49,7 +53,7 @@ returns-2 c =
     let a = w .before .before .before in
     let e = ap said (sym (a .answer .given .1)) ∙ a .before .before .judge .ensures in
     let s = a .before .before .before .before .before .args .session in
-    leaves _ _ _ _ _ _ _ _ e (c .with-window .ensures ∙ ap (withWindow s) (c .before .hold .ensures)) (w .write-into .ensures)
+    leaves _ _ _ _ _ _ _ _ e (c .with-window .ensures ∙ ap (withWindow s) (c .before .hold .ensures)) (w .put-packet .ensures)
 
 pub offer-spec : {M : Type 1} → statement M
 offer-spec =
@@ -59,9 +63,9 @@ offer-spec =
     enum-known-answer
     enum-told
     returns
-    cast-write-into
-    mul-write-into
-    write-into-requires
+    cast-put-packet
+    mul-put-packet
+    put-packet-requires
     hold-requires
     with-window-requires
     same-length

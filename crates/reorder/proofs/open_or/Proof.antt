@@ -10,6 +10,7 @@ use Rattle.packet.specs.declared.PacketAnswer.{PacketAnswer}
 use Rattle.packet.specs.declared.PacketFields.{PacketFields}
 use Rattle.packet.specs.Fields.{fieldsOf}
 use Rattle.packet.specs.Read.{readRefusal, said}
+use Rattle.packet.proofs.Accept.{accepted}
 use Rattle.reorder.specs.Offer.{opened, openRefusal, openSaid, openOf}
 use Rattle.reorder.proofs.Said.{stays, leaves, handed-on}
 use borrow.Author.Needs.{needs}
@@ -57,8 +58,13 @@ returns-4 c =
     let h = handed-on _ _ _ _ (ap said (sym t) ∙ a .read-answer .ensures) (c .refusal-number .ensures ∙ ap (λ (x : PacketAnswer). numberSaid (said x)) t) in
     stays _ _ _ _ _ _ (say-refused {A = ℕ} _ _ 0 (ready (a .before) _ (h .0)) (h .1))
 
-write-into-requires : tie.Need-write-into-requires
-write-into-requires c κs = search needs
+put-packet-requires : tie.Need-put-packet-requires
+put-packet-requires c κs =
+    let t = c .before .before .answer .given .1 in
+    let a = c .before .before .before .before in
+    let k = a .before .before .before .before .before .before .args in
+    let r = answer-said (readRefusal (now (k .packet)) (k .sum-word)) (fieldsOf (now (k .packet))) _ (ap said (sym t) ∙ a .read-answer .ensures) in
+    accepted (now (k .packet)) (k .sum-word) (r .0) .size
 
 same-length : tie.Need-same-length
 same-length c = search needs
@@ -72,7 +78,7 @@ returns-5 c =
     let k = a .before .before .before .before .before .before .args in
     let r = answer-said (readRefusal (now (k .packet)) (k .sum-word)) (fieldsOf (now (k .packet))) _ (ap said (sym t) ∙ a .read-answer .ensures) in
     leaves _ _ _ _ 0 _ _ _ (say-answered {A = ℕ} _ 0 0 (sym (ready (a .before) 0 (sym (r .0)))) refl)
-    (ap (λ (f : PacketFields). opened f (k .threshold) (k .sum-word)) (r .1)) (w .write-into .ensures)
+    (ap (λ (f : PacketFields). opened f (k .threshold) (k .sum-word)) (r .1)) (w .put-packet .ensures)
 
 pub open-or-spec : {M : Type 1} → statement M
 open-or-spec =
@@ -86,6 +92,6 @@ open-or-spec =
     enum-told
     refusal-number-requires
     returns-4
-    write-into-requires
+    put-packet-requires
     same-length
     returns-5)

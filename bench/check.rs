@@ -1,5 +1,6 @@
 //! The check program of document 01 by the reference: reads an AEDR file on standard input and prints each record's answer and a total.
 
+#[path = "../tests/reference.rs"]
 mod reference;
 
 use reference::{check_piece, AEDR_RECORD};
