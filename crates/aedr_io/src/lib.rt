@@ -1,14 +1,14 @@
 // Checks an AEDR file that is open: reads it in turns of 213 pieces, writes the lines of each turn, and then the total. No contract can say what
-// is read or written. `read_turn` says what text it makes of the bytes that it read, and `aedr::turns_print_the_whole` that the texts of the
-// turns, one after the other, are what is to be printed for the whole input.
+// is read or written. They say which text stands in `out` when it is printed, for the bytes that stand in `buf`, and how the count of pieces goes
+// on from turn to turn. By `aedr::turns_print_the_whole` these texts, one after the other, are what is to be printed for the whole input.
 use libc::STDERR_FILENO;
 use libc::STDOUT_FILENO;
 ghost use mathlib.Core.Path.{_≡_};
-ghost use mathlib.Core.Bool.{true};
 ghost use Prim.Native.Nat.{_+_, _*_, _≤_, _^_};
 ghost use lib.ListN.{length, take};
 ghost use Rattle.io.specs.Counts.{Counts};
-ghost use Rattle.aedr_io.specs.Turn.{turnText};
+ghost use Rattle.aedr.specs.Turns.{closing};
+ghost use Rattle.aedr_io.specs.Turn.{turnText, TurnPrinted, TurnsPrinted, Ran};
 
 // 2^40: a loop has to end, and nothing says that the input does. So many turns have fewer than 2^48 pieces, and their count cannot wrap.
 const TURNS: u64 = 1099511627776;
@@ -57,7 +57,7 @@ struct Turn {
 
 // Fills buf, and stores the report on what was read at the start of out.
 fn read_turn(fd: i32, done: u64, buf: &mut [u8], out: &mut [u8]) -> Turn
-    ensures { λ r. ⌜ take (r .text) (now (out .exit)) ≡ turnText (r .failed) (now (buf .exit)) (r .read) done (length (now (out .entry))) ⌝ }
+    ensures { λ r. ⌜ take (r .text) (now (out .exit)) ≡ turnText (r .failed) (now (buf .exit)) (r .read) done (length (now (out .exit))) ⌝ }
     ensures { λ r. ⌜ Counts (r .read) (now (buf .exit)) × Counts (r .text) (now (out .exit)) ⌝ }
 {
     let filled = fill(fd, buf);
@@ -86,86 +86,147 @@ fn print(text: &[u8]) -> bool {
     false
 }
 
-// What the turns so far came to: the pieces whose lines were written, whether there may be more input, and whether the input ended and all was
-// written, the closing line too.
+// What a turn came to once printed: what it read and stored, whether its text was written, the pieces whose lines were written so far, and
+// whether another turn follows.
 struct Progress {
+    turn: Turn,
+    written: bool,
     records: u64,
     more: bool,
-    complete: bool,
 }
 
-// One turn after `records` pieces, and the closing line after the last.
+// Prints the turn after `records` pieces.
 fn print_turn(fd: i32, records: u64, buf: &mut [u8], out: &mut [u8]) -> Progress
     requires { ⌜ (length (now buf) ≡ 261990) × (records ≤ 213 * 2 ^ 40) ⌝ }
-    ensures { λ r. ⌜ (r .records ≤ records + 213) × (r .more ≡ true → r .records ≡ records + 213) ⌝ }
+    ensures { λ r. ⌜ TurnPrinted r records (now (buf .exit)) (now (out .exit)) ⌝ }
 {
     let turn = read_turn(fd, records, buf, out);
     if turn.failed {
         os::fail(b"read");
         return Progress {
+            turn,
+            written: false,
             records,
             more: false,
-            complete: false,
         };
     }
     let text = turn.text;
     if !print(&out[..text]) {
         return Progress {
+            turn,
+            written: false,
             records,
             more: false,
-            complete: false,
         };
     }
     let records = records + aedr::count_pieces(turn.read) as u64;
-    if turn.read < buf.len() {
-        let text = aedr::close(records, out);
-        return Progress {
-            records,
-            more: false,
-            complete: print(&out[..text]),
-        };
-    }
+    let more = turn.read == buf.len();
     Progress {
+        turn,
+        written: true,
         records,
-        more: true,
-        complete: false,
+        more,
     }
 }
 
-// How many pieces had their lines written, and whether the input ended and all was written, the closing line too.
+// What the turns came to: how many filled the buffer and were written, the bytes that the one after them read and the length of its text, the
+// pieces whose lines were written, and whether the input ended and all was written.
+struct Turns {
+    full: u64,
+    read: usize,
+    text: usize,
+    records: u64,
+    ended: bool,
+}
+
+// Prints turn after turn, each numbered on from those before it.
+fn print_turns(fd: i32, buf: &mut [u8], out: &mut [u8]) -> Turns
+    requires { ⌜ length (now buf) ≡ 261990 ⌝ }
+    ensures { λ r. ⌜ TurnsPrinted r (now (buf .exit)) (now (out .exit)) ⌝ }
+{
+    let mut records: u64 = 0;
+    let mut full: u64 = 0;
+    while full < TURNS {
+        let progress = print_turn(fd, records, buf, out);
+        records = progress.records;
+        if !progress.more {
+            return Turns {
+                full,
+                read: progress.turn.read,
+                text: progress.turn.text,
+                records,
+                ended: progress.written,
+            };
+        }
+        full = full + 1;
+    }
+    io::write_all(STDERR_FILENO, b"input too long\n");
+    Turns {
+        full,
+        read: 0,
+        text: 0,
+        records,
+        ended: false,
+    }
+}
+
+// The length of the closing line, and whether it was written.
+struct Total {
+    text: usize,
+    written: bool,
+}
+
+// Prints the closing line after `records` pieces.
+fn print_total(records: u64, out: &mut [u8]) -> Total
+    ensures { λ r. ⌜ take (r .text) (now (out .exit)) ≡ closing records (length (now (out .exit))) ⌝ }
+{
+    let text = aedr::close(records, out);
+    Total {
+        text,
+        written: print(&out[..text]),
+    }
+}
+
+// How many pieces had their lines written, and whether the input ended and all was written, the closing line too. For the contracts: how many
+// turns filled the buffer and were written, the bytes that the one after them read, and the length of the closing line.
 pub struct Checked {
     pub records: u64,
     pub complete: bool,
+    full: u64,
+    read: usize,
+    total: usize,
 }
 
+// Prints the turns, and where the input ended the closing line.
 fn run(fd: i32, buf: &mut [u8], out: &mut [u8]) -> Checked
     requires { ⌜ length (now buf) ≡ 261990 ⌝ }
-    ensures { λ r. ⌜ r .records ≤ 213 * 2 ^ 40 ⌝ }
+    ensures { λ r. ⌜ Ran r (now (buf .exit)) (now (out .exit)) ⌝ }
 {
-    let mut records: u64 = 0;
-    let mut turns: u64 = 0;
-    while turns < TURNS {
-        let progress = print_turn(fd, records, buf, out);
-        records = progress.records;
-        turns = turns + 1;
-        if !progress.more {
-            return Checked {
-                records,
-                complete: progress.complete,
-            };
-        }
+    let turns = print_turns(fd, buf, out);
+    let records = turns.records;
+    if !turns.ended {
+        return Checked {
+            records,
+            complete: false,
+            full: turns.full,
+            read: turns.read,
+            total: 0,
+        };
     }
-    io::write_all(STDERR_FILENO, b"input too long\n");
+    let total = print_total(records, out);
     Checked {
         records,
-        complete: false,
+        complete: total.written,
+        full: turns.full,
+        read: turns.read,
+        total: total.text,
     }
 }
 
-// Checks the file on fd. It ends, and the count of pieces does not wrap. A failed read or write is told on standard error, and then nothing more
-// is written on standard output.
+// Checks the file on fd. It ends, and the count of pieces does not wrap: they are those of `full` turns of 213 and of one of at most as many. A
+// failed read or write is told on standard error, and then nothing more is written on standard output.
 pub fn check_file(fd: i32) -> Checked
-    ensures { λ r. ⌜ r .records ≤ 213 * 2 ^ 40 ⌝ }
+    ensures { λ r. ⌜ (r .records ≤ 213 * 2 ^ 40) × ((213 * r .full ≤ r .records) × (r .records ≤ 213 * r .full + 213)) ⌝ }
 {
     let mut buf = [0u8; 261990];
     let mut out = [0u8; 5112];

@@ -1,7 +1,7 @@
--- Only a turn that filled the buffer lets another follow.
-use mathlib.Core.Bool.{false≢true}
+-- The text is that of the turn read; only a turn that filled the buffer lets another follow.
 use native.Mathlib.Omega.{arith}
 use borrow.Author.Needs.{needs}
+use Rattle.aedr_io.proofs.Printing.{turn-stops, turn-written}
 use Rattle.aedr_io.proofs.print_turn.Statement.{statement}
 use Rattle.aedr_io.proofs.print_turn.Tie as tie
 
@@ -21,7 +21,8 @@ same-length-2 : tie.Need-same-length-2
 same-length-2 c = search needs
 
 returns : tie.Need-returns
-returns c = (omega arith, λ e. absurd (false≢true e))
+returns c =
+    let t = c .before .before .before .before .before .before .before .read-turn in turn-stops (t .result) _ _ _ (t .ensures .0)
 
 slice-reshare-prefix-print : tie.Need-slice-reshare-prefix-print
 slice-reshare-prefix-print c = search needs
@@ -39,25 +40,14 @@ same-length-4 : tie.Need-same-length-4
 same-length-4 c = search needs
 
 returns-2 : tie.Need-returns-2
-returns-2 c = (omega arith, λ e. absurd (false≢true e))
+returns-2 c =
+    let t = c .before .before .before .before .before .before .before .before .read-turn in turn-stops (t .result) _ _ _ (t .ensures .0)
 
 count-pieces-requires : tie.Need-count-pieces-requires
 count-pieces-requires c κs = search needs
 
 add-records : tie.Need-add-records
 add-records c = search needs
-
-close-requires : tie.Need-close-requires
-close-requires c κs = search needs
-
-slice-reshare-prefix-print-2 : tie.Need-slice-reshare-prefix-print-2
-slice-reshare-prefix-print-2 c = search needs
-
-slice-aggregate-print-2 : tie.Need-slice-aggregate-print-2
-slice-aggregate-print-2 c = search needs
-
-print-requires-2 : tie.Need-print-requires-2
-print-requires-2 c κs = search needs
 
 same-length-5 : tie.Need-same-length-5
 same-length-5 c = search needs
@@ -66,16 +56,9 @@ same-length-6 : tie.Need-same-length-6
 same-length-6 c = search needs
 
 returns-3 : tie.Need-returns-3
-returns-3 c = (omega arith, λ e. absurd (false≢true e))
-
-same-length-7 : tie.Need-same-length-7
-same-length-7 c = search needs
-
-same-length-8 : tie.Need-same-length-8
-same-length-8 c = search needs
-
-returns-4 : tie.Need-returns-4
-returns-4 c = search needs
+returns-3 c =
+    let t = c .before .before .before .before .before .before .before .before .before .before .read-turn in
+    turn-written (t .result) _ (c .before .count-pieces .result) _ _ (t .ensures .0) (c .before .before .before .before .before .if1 .left) (t .ensures .1 .0) (c .before .count-pieces .ensures) (omega arith)
 
 pub print-turn-spec : {M : Type 1} → statement M
 print-turn-spec =
@@ -95,13 +78,6 @@ print-turn-spec =
     returns-2
     count-pieces-requires
     add-records
-    close-requires
-    slice-reshare-prefix-print-2
-    slice-aggregate-print-2
-    print-requires-2
     same-length-5
     same-length-6
-    returns-3
-    same-length-7
-    same-length-8
-    returns-4)
+    returns-3)

@@ -2,7 +2,7 @@
 use native.Mathlib.Omega.{arith}
 use denote.Ref.{now}
 use borrow.Author.Needs.{needs}
-use Rattle.aedr_io.proofs.Turns.{turn-failed, turn-report}
+use Rattle.aedr_io.proofs.Texts.{turn-failed, turn-report}
 use Rattle.aedr_io.proofs.read_turn.Statement.{statement}
 use Rattle.aedr_io.proofs.read_turn.Tie as tie
 
@@ -38,7 +38,7 @@ returns-2 c =
     let a = c .before .before .before .before .before .before .before .before .before .before .before .before .args in
     let f = c .before .before .before .before .before .before .before .before .fill in
     let p = c .before .before .report in (
-      turn-report _ (now (a .out)) _ (f .result .count) (a .done) (p .result) (p .ensures .0 .0) (p .ensures .0 .1) (omega (arith, p .ensures .1 .0, p .kept)),
+      turn-report _ (now (a .out)) _ (f .result .count) (a .done) (p .result) (p .ensures .0 .0) (p .ensures .0 .1) (p .ensures .1 .0) (p .kept .1 .1 .0),
       (f .ensures, p .ensures .1),
     )
 

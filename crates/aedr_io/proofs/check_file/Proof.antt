@@ -1,0 +1,23 @@
+-- The lengths of the buffers.
+use Prim.Native.Nat.{ℕ}
+use mathlib.Core.Path.{sym}
+use lib.ListN.{length-replicate}
+use Rattle.aedr_io.proofs.check_file.Statement.{statement}
+use Rattle.aedr_io.proofs.check_file.Tie as tie
+
+slice-aggregate-run : tie.Need-slice-aggregate-run
+slice-aggregate-run c = sym (length-replicate {A = ℕ} 261990 0)
+
+slice-aggregate-run-2 : tie.Need-slice-aggregate-run-2
+slice-aggregate-run-2 c = sym (length-replicate {A = ℕ} 5112 0)
+
+run-requires : tie.Need-run-requires
+run-requires c κs = length-replicate {A = ℕ} 261990 0
+
+returns : tie.Need-returns
+returns c =
+    let r = c .before .before .run .ensures in (r .most, (r .low, r .high))
+
+pub check-file-spec : {M : Type 1} → statement M
+check-file-spec =
+    tie.close (tie.spec slice-aggregate-run slice-aggregate-run-2 run-requires returns)
