@@ -13,6 +13,7 @@ ghost use Rattle.octets.specs.Bytes.{put};
 ghost use Rattle.reorder.specs.Offer.{said};
 ghost use Rattle.reorder_serve.specs.Serve.{serveSaid, drainSaid, passSaid};
 ghost use Rattle.reorder_numbers.specs.LentCalls.{AreLentCalls};
+ghost use Rattle.reorder_numbers.specs.Numbered.{RefusalsHaveNumbers};
 ghost use Rattle.reorder_numbers.specs.Numbers.{held, served, passed, drained, listed, Opens, Offers, Serves, Drains, Passes};
 
 // A refusal's number and zeros; or 0, a kind (0 Waiting, 1 a packet, 2 a missing position) and a position.
@@ -260,4 +261,9 @@ pub fn pass(session: Session) -> Answered
 // The calls in numbers are the calls over a lent session.
 pub fn are_lent_calls()
     ensures { λ _. ⌜ AreLentCalls ⌝ }
+{}
+
+// No refusal is 0.
+pub fn refusals_have_numbers()
+    ensures { λ _. ⌜ RefusalsHaveNumbers ⌝ }
 {}
