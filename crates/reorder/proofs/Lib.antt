@@ -1,4 +1,1 @@
-pub mod Said
-pub mod Placing
-pub mod Whole
-pub mod Taken
+pub mod Opening

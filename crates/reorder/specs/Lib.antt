@@ -1,3 +1,1 @@
-pub mod Session
-pub mod Outcome
 pub mod Offer

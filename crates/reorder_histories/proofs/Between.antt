@@ -8,12 +8,14 @@ use native.Mathlib.Omega.{arith}
 use lib.ListN.{length}
 use Rattle.octets.specs.Refusal.{Said, refused, answered, say}
 use Rattle.octets.proofs.Ladder.{answer-said}
-use Rattle.reorder.specs.declared.Session.{Session}
-use Rattle.reorder.specs.Session.{slot, withWindow}
-use Rattle.reorder.specs.Outcome.{Outcome, outcome}
-use Rattle.reorder_serve.specs.Turn.{Turn, packet, missing, waiting, turn, turned, shown, turns, turnedAll, shownAll}
-use Rattle.reorder_serve.specs.Serve.{serveRefusal, serveOf, drainRefusal, drainOf, passRefusal, passOf}
-use Rattle.reorder_serve.proofs.Ready.{ServeReady, serve-ready, DrainReady, drain-ready}
+use Rattle.reorder_session.specs.declared.Session.{Session}
+use Rattle.reorder_session.specs.Session.{slot, withWindow}
+use Rattle.reorder_session.specs.Outcome.{Outcome, outcome}
+use Rattle.reorder_turn.specs.Turn.{Turn, packet, missing, waiting, turn, turned, shown, turns, turnedAll, shownAll}
+use Rattle.reorder_turn.specs.Refusals.{serveRefusal, drainRefusal}
+use Rattle.reorder_serve.specs.Serve.{serveOf, drainOf}
+use Rattle.reorder_pass.specs.Pass.{passRefusal, passOf}
+use Rattle.reorder_turn.proofs.Ready.{ServeReady, serve-ready, DrainReady, drain-ready}
 use Rattle.reorder_laws.specs.Serves.{answerAt, piece}
 use Rattle.reorder_laws.proofs.Kept.{turns-split}
 use Rattle.reorder_laws.proofs.Pieces.{piece-same, slot-length, shown-packet}

@@ -25,12 +25,12 @@ use Rattle.octets.proofs.Store.{put-length}
 use Rattle.packet.proofs.Accept.{accepted}
 use Rattle.window.specs.Window.{heldAt, holding}
 use Rattle.window.proofs.Held.{held-least, freed-held, skipped-held, holding-same, holding-other}
-use Rattle.reorder.specs.declared.Session.{Session}
-use Rattle.reorder.specs.Session.{withWindow, slotStart, slot}
-use Rattle.reorder.proofs.Whole.{Whole}
-use Rattle.reorder.proofs.Taken.{Taken}
-use Rattle.reorder_serve.specs.Turn.{Turn, packet, missing, waiting, turn, turned}
-use Rattle.reorder_serve.proofs.Turns.{Shows, shows-packet, shows-missing, shows-waiting, shows}
+use Rattle.reorder_session.specs.declared.Session.{Session}
+use Rattle.reorder_session.specs.Session.{withWindow, slotStart, slot}
+use Rattle.reorder_session.proofs.Whole.{Whole}
+use Rattle.reorder_place.proofs.Taken.{Taken}
+use Rattle.reorder_turn.specs.Turn.{Turn, packet, missing, waiting, turn, turned}
+use Rattle.reorder_turn.proofs.Turns.{Shows, shows-packet, shows-missing, shows-waiting, shows}
 use Rattle.reorder_laws.specs.Held.{Holds}
 use Rattle.reorder_laws.proofs.Kept.{whole-turned, whole-holding}
 use Rattle.reorder_laws.proofs.Pieces.{piece-same}

@@ -8,10 +8,10 @@ use native.Mathlib.Decide.{decLt, ℕ-discrete}
 use native.Mathlib.Omega.{arith}
 use Rattle.window.specs.Window.{heldAt}
 use Rattle.window.proofs.Held.{held-least}
-use Rattle.reorder.specs.declared.Session.{Session}
-use Rattle.reorder.specs.Session.{slot}
-use Rattle.reorder_serve.specs.Turn.{Turn, packet, missing, waiting, turn, turned}
-use Rattle.reorder_serve.proofs.Turns.{Shows, shows-packet, shows-missing, shows-waiting, shows}
+use Rattle.reorder_session.specs.declared.Session.{Session}
+use Rattle.reorder_session.specs.Session.{slot}
+use Rattle.reorder_turn.specs.Turn.{Turn, packet, missing, waiting, turn, turned}
+use Rattle.reorder_turn.proofs.Turns.{Shows, shows-packet, shows-missing, shows-waiting, shows}
 use Rattle.reorder_laws.proofs.Kept.{keeps-turned}
 use Rattle.reorder_histories.specs.Histories.{took, gave, called-missing, State, Served, CalledMissing, StillHeld, NothingLost}
 use Rattle.reorder_histories.proofs.Between.{turnTold, afterTurn, oneTurn, toldBy, turnedOnce}

@@ -19,14 +19,15 @@ use Rattle.position.specs.declared.Anchor.{Anchor}
 use Rattle.position.specs.Position.{position, publishedTolerance}
 use Rattle.window.specs.declared.Window.{Window}
 use Rattle.window.specs.Window.{heldAt, holding}
-use Rattle.reorder.specs.declared.Session.{Session}
-use Rattle.reorder.specs.Session.{withWindow, slotStart}
-use Rattle.reorder.specs.Outcome.{outcome}
-use Rattle.reorder.specs.Offer.{placed, positionOf, offerRefusal, offerSaid, offerOf}
-use Rattle.reorder.proofs.Said.{said-is, refusing-next}
-use Rattle.reorder.proofs.Placing.{ahead, fits}
-use Rattle.reorder.proofs.Whole.{Whole, unbroken}
-use Rattle.reorder.proofs.Taken.{taken-offer}
+use Rattle.reorder_session.specs.declared.Session.{Session}
+use Rattle.reorder_session.specs.Session.{withWindow, slotStart}
+use Rattle.reorder_session.specs.Outcome.{outcome}
+use Rattle.reorder_place.specs.Place.{placed, positionOf, offerRefusal, offerSaid}
+use Rattle.reorder.specs.Offer.{offerOf}
+use Rattle.reorder_session.proofs.Said.{said-is, refusing-next}
+use Rattle.reorder_place.proofs.Placing.{ahead, fits}
+use Rattle.reorder_session.proofs.Whole.{Whole, unbroken}
+use Rattle.reorder_place.proofs.Taken.{taken-offer}
 use Rattle.reorder_histories.specs.Histories.{offer, offerTells, State, step, NotTooFar}
 use Rattle.reorder_histories.proofs.Between.{same-state}
 use Rattle.reorder_histories.proofs.Buffer.{Takes, takes}

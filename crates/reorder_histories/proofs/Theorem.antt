@@ -13,15 +13,16 @@ use Rattle.window.specs.declared.Window.{Window}
 use Rattle.window.specs.Window.{heldAt}
 use Rattle.window.proofs.Tests.{not-then-false}
 use Rattle.window.proofs.Held.{first-held}
-use Rattle.reorder.specs.declared.Session.{Session}
-use Rattle.reorder.specs.Session.{slot}
+use Rattle.reorder_session.specs.declared.Session.{Session}
+use Rattle.reorder_session.specs.Session.{slot}
 use Rattle.reorder.specs.Offer.{firstWindow, opened, openSaid, openOf}
-use Rattle.reorder.proofs.Said.{left}
-use Rattle.reorder.proofs.Whole.{Whole, whole}
-use Rattle.reorder.proofs.Taken.{accepted-opening}
-use Rattle.reorder_serve.specs.Turn.{Turn, packet, missing, waiting, turn, turned, shown}
-use Rattle.reorder_serve.specs.Serve.{serveRefusal, serveOf}
-use Rattle.reorder_serve.proofs.Turns.{Shows, shows-packet, shows-missing, shows-waiting, shows}
+use Rattle.reorder_session.proofs.Said.{left}
+use Rattle.reorder_session.proofs.Whole.{Whole, whole}
+use Rattle.reorder.proofs.Opening.{accepted-opening}
+use Rattle.reorder_turn.specs.Turn.{Turn, packet, missing, waiting, turn, turned, shown}
+use Rattle.reorder_turn.specs.Refusals.{serveRefusal}
+use Rattle.reorder_serve.specs.Serve.{serveOf}
+use Rattle.reorder_turn.proofs.Turns.{Shows, shows-packet, shows-missing, shows-waiting, shows}
 use Rattle.reorder_laws.specs.Held.{Holds}
 use Rattle.reorder_laws.proofs.Kept.{calls-keep}
 use Rattle.reorder_laws.proofs.Bytes.{bytes-come-out}

@@ -11,12 +11,13 @@ use Rattle.octets.proofs.Ladder.{pass, pass-eq, pass-le, say-answered}
 use Rattle.window.specs.Window.{heldAt}
 use Rattle.window.proofs.Tests.{not-then-false}
 use Rattle.window.proofs.Held.{held-least, held-most, none-held}
-use Rattle.reorder.specs.declared.Session.{Session}
-use Rattle.reorder.proofs.Said.{said-is}
-use Rattle.reorder.proofs.Whole.{Whole, whole, unbroken}
-use Rattle.reorder_serve.specs.Turn.{Turn, waiting, turn, turns, turnedAll, shownAll, described}
-use Rattle.reorder_serve.specs.Serve.{serveOf, drainRefusal, drainOf}
-use Rattle.reorder_serve.proofs.Turns.{turn-waiting, shows, no-kind, one-more, turns-stop, turns-more}
+use Rattle.reorder_session.specs.declared.Session.{Session}
+use Rattle.reorder_session.proofs.Said.{said-is}
+use Rattle.reorder_session.proofs.Whole.{Whole, whole, unbroken}
+use Rattle.reorder_turn.specs.Turn.{Turn, waiting, turn, turns, turnedAll, shownAll, described}
+use Rattle.reorder_serve.specs.Serve.{serveOf, drainOf}
+use Rattle.reorder_turn.specs.Refusals.{drainRefusal}
+use Rattle.reorder_turn.proofs.Turns.{turn-waiting, shows, no-kind, one-more, turns-stop, turns-more}
 use Rattle.reorder_laws.proofs.Kept.{keeps-turns, calls-keep}
 use Rattle.reorder_laws.proofs.Drains.{drained, fine}
 use Rattle.reorder_histories.specs.Histories.{offer, drain, offers, State, step, Waits, WaitsAfter, Supposed, Consumer, atStart}

@@ -5,7 +5,7 @@ use mathlib.Core.Path.{_≡_}
 use mathlib.Core.List.{List, [], _∷_}
 use lib.ListN.{length}
 use Rattle.octets.specs.Refusal.{answered}
-use Rattle.reorder_serve.specs.Turn.{Turn}
+use Rattle.reorder_turn.specs.Turn.{Turn}
 use Rattle.reorder_serve.specs.Serve.{drainOf}
 use Rattle.reorder_histories.specs.Histories.{
   Call,

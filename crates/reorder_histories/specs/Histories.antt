@@ -7,12 +7,13 @@ use mathlib.Core.List.{List, [], _∷_, _++_, List·Memᴰ}
 use mathlib.Core.Logic.{_⊎_}
 use lib.ListN.{length}
 use Rattle.octets.specs.Refusal.{Said, refused, answered}
-use Rattle.reorder.specs.declared.Session.{Session}
-use Rattle.reorder.specs.Session.{slot}
-use Rattle.reorder.specs.Outcome.{Outcome}
+use Rattle.reorder_session.specs.declared.Session.{Session}
+use Rattle.reorder_session.specs.Session.{slot}
+use Rattle.reorder_session.specs.Outcome.{Outcome}
 use Rattle.reorder.specs.Offer.{openOf, offerOf}
-use Rattle.reorder_serve.specs.Turn.{Turn, packet, missing, waiting}
-use Rattle.reorder_serve.specs.Serve.{serveOf, drainOf, passOf}
+use Rattle.reorder_turn.specs.Turn.{Turn, packet, missing, waiting}
+use Rattle.reorder_serve.specs.Serve.{serveOf, drainOf}
+use Rattle.reorder_pass.specs.Pass.{passOf}
 use Rattle.reorder_laws.specs.Serves.{piece}
 
 -- ---- the calls

@@ -13,15 +13,19 @@ use Rattle.octets.proofs.Ladder.{pass, pass-eq, say-answered, answer-said}
 use Rattle.window.specs.declared.Window.{Window}
 use Rattle.window.specs.Window.{heldAt, skipped}
 use Rattle.window.proofs.Held.{held-above, freed-held, skipped-held}
-use Rattle.reorder.specs.declared.Session.{Session}
-use Rattle.reorder.specs.Session.{withWindow}
-use Rattle.reorder.specs.Offer.{placeRefusal, placed, offerRefusal, offerSaid, offerOf}
-use Rattle.reorder.proofs.Said.{leaves, refusing-next, left}
-use Rattle.reorder.proofs.Whole.{Whole, unbroken}
-use Rattle.reorder_serve.specs.Turn.{Turn, packet, missing, waiting, turn, turned, shown}
-use Rattle.reorder_serve.specs.Serve.{serveRefusal, serveOf, passRefusal, passOf}
-use Rattle.reorder_serve.proofs.Turns.{Shows, shows-packet, shows-missing, shows-waiting, shows}
-use Rattle.reorder_serve.proofs.Ready.{serve-ready, pass-ready}
+use Rattle.reorder_session.specs.declared.Session.{Session}
+use Rattle.reorder_session.specs.Session.{withWindow}
+use Rattle.reorder_place.specs.Place.{placeRefusal, placed, offerRefusal, offerSaid}
+use Rattle.reorder.specs.Offer.{offerOf}
+use Rattle.reorder_session.proofs.Said.{leaves, refusing-next, left}
+use Rattle.reorder_session.proofs.Whole.{Whole, unbroken}
+use Rattle.reorder_turn.specs.Turn.{Turn, packet, missing, waiting, turn, turned, shown}
+use Rattle.reorder_turn.specs.Refusals.{serveRefusal}
+use Rattle.reorder_serve.specs.Serve.{serveOf}
+use Rattle.reorder_pass.specs.Pass.{passRefusal, passOf}
+use Rattle.reorder_turn.proofs.Turns.{Shows, shows-packet, shows-missing, shows-waiting, shows}
+use Rattle.reorder_turn.proofs.Ready.{serve-ready}
+use Rattle.reorder_pass.proofs.Ready.{pass-ready}
 use Rattle.reorder_laws.specs.Room.{TakesAgain, RoomIsUsedAgain}
 use Rattle.reorder_laws.proofs.Kept.{whole-turned, whole-skipped}
 

@@ -13,15 +13,20 @@ use Rattle.octets.proofs.Ladder.{answer-said}
 use Rattle.packet.proofs.Accept.{accepted}
 use Rattle.window.specs.Window.{heldAt, holding, freed, skipped}
 use Rattle.window.proofs.Held.{held-least, held-most, freed-held, skipped-held, holding-same, holding-other}
-use Rattle.reorder.specs.declared.Session.{Session}
-use Rattle.reorder.specs.Session.{withWindow, slotStart, slot}
-use Rattle.reorder.specs.Offer.{offerSaid, offerOf, firstWindow, openSaid, openOf}
-use Rattle.reorder.proofs.Said.{outcome-cases, left, left-refused}
-use Rattle.reorder.proofs.Taken.{Taken, taken-offer, accepted-opening}
-use Rattle.reorder_serve.specs.Turn.{Turn, packet, missing, waiting, turn, turned, shown, turns, turnedAll, shownAll}
-use Rattle.reorder_serve.specs.Serve.{serveRefusal, serveOf, drainRefusal, drainOf, passRefusal, passOf}
-use Rattle.reorder_serve.proofs.Turns.{Shows, shows-packet, shows-missing, shows-waiting, shows}
-use Rattle.reorder_serve.proofs.Ready.{serve-ready, pass-ready}
+use Rattle.reorder_session.specs.declared.Session.{Session}
+use Rattle.reorder_session.specs.Session.{withWindow, slotStart, slot}
+use Rattle.reorder_place.specs.Place.{offerSaid}
+use Rattle.reorder.specs.Offer.{offerOf, firstWindow, openSaid, openOf}
+use Rattle.reorder_session.proofs.Said.{outcome-cases, left, left-refused}
+use Rattle.reorder_place.proofs.Taken.{Taken, taken-offer}
+use Rattle.reorder.proofs.Opening.{accepted-opening}
+use Rattle.reorder_turn.specs.Turn.{Turn, packet, missing, waiting, turn, turned, shown, turns, turnedAll, shownAll}
+use Rattle.reorder_turn.specs.Refusals.{serveRefusal, drainRefusal}
+use Rattle.reorder_serve.specs.Serve.{serveOf, drainOf}
+use Rattle.reorder_pass.specs.Pass.{passRefusal, passOf}
+use Rattle.reorder_turn.proofs.Turns.{Shows, shows-packet, shows-missing, shows-waiting, shows}
+use Rattle.reorder_turn.proofs.Ready.{serve-ready}
+use Rattle.reorder_pass.proofs.Ready.{pass-ready}
 use Rattle.reorder_laws.specs.Serves.{answerAt, piece}
 use Rattle.reorder_laws.specs.Held.{Holds, GivenBy, DrainedBy, BytesComeOut}
 use Rattle.reorder_laws.proofs.Kept.{turns-split}

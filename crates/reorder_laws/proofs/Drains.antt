@@ -9,15 +9,16 @@ use native.Mathlib.Omega.{arith}
 use lib.ListN.{length, replicate, getD}
 use Rattle.octets.specs.Refusal.{Said, answered, say}
 use Rattle.octets.proofs.Ladder.{pass, pass-eq, pass-le, say-answered, answer-said}
-use Rattle.reorder.specs.declared.Session.{Session}
-use Rattle.reorder.specs.Session.{slot}
-use Rattle.reorder.specs.Outcome.{outcome}
-use Rattle.reorder.proofs.Said.{left}
-use Rattle.reorder.proofs.Whole.{Whole, unbroken}
-use Rattle.reorder_serve.specs.Turn.{Turn, packet, waiting, turn, turned, shown, turns, turnedAll, shownAll}
-use Rattle.reorder_serve.specs.Serve.{serveRefusal, serveOf, drainRefusal, drainOf}
-use Rattle.reorder_serve.proofs.Turns.{turns-stop}
-use Rattle.reorder_serve.proofs.Ready.{DrainReady, drain-ready}
+use Rattle.reorder_session.specs.declared.Session.{Session}
+use Rattle.reorder_session.specs.Session.{slot}
+use Rattle.reorder_session.specs.Outcome.{outcome}
+use Rattle.reorder_session.proofs.Said.{left}
+use Rattle.reorder_session.proofs.Whole.{Whole, unbroken}
+use Rattle.reorder_turn.specs.Turn.{Turn, packet, waiting, turn, turned, shown, turns, turnedAll, shownAll}
+use Rattle.reorder_turn.specs.Refusals.{serveRefusal, drainRefusal}
+use Rattle.reorder_serve.specs.Serve.{serveOf, drainOf}
+use Rattle.reorder_turn.proofs.Turns.{turns-stop}
+use Rattle.reorder_turn.proofs.Ready.{DrainReady, drain-ready}
 use Rattle.reorder_laws.specs.Serves.{serves, sessionAfter, saidBy, bytesBy, answerAt, piece, DrainsAreServes}
 use Rattle.reorder_laws.proofs.Kept.{whole-turned, turns-split}
 use Rattle.reorder_laws.proofs.Pieces.{piece-same, slot-length, shown-packet, shown-other}

@@ -15,16 +15,20 @@ use Rattle.packet.proofs.Accept.{accepted}
 use Rattle.window.specs.declared.Window.{Window}
 use Rattle.window.specs.Window.{heldAt, holding, freed, skipped}
 use Rattle.window.proofs.Held.{held-least, held-most, freed-held, skipped-held, holding-other}
-use Rattle.reorder.specs.declared.Session.{Session}
-use Rattle.reorder.specs.Session.{broken, withWindow}
-use Rattle.reorder.specs.Offer.{offerSaid, offerOf, firstWindow, opened, openSaid, openOf}
-use Rattle.reorder.proofs.Said.{outcome-cases, left}
-use Rattle.reorder.proofs.Whole.{Whole, whole, unbroken}
-use Rattle.reorder.proofs.Taken.{taken-offer, accepted-opening}
-use Rattle.reorder_serve.specs.Turn.{Turn, packet, missing, waiting, turn, turned, turns, turnedAll, described}
-use Rattle.reorder_serve.specs.Serve.{serveRefusal, serveOf, drainRefusal, drainOf, passRefusal, passOf}
-use Rattle.reorder_serve.proofs.Turns.{Shows, shows-packet, shows-missing, shows-waiting, shows, no-kind, turns-stop, turns-more}
-use Rattle.reorder_serve.proofs.Ready.{pass-ready}
+use Rattle.reorder_session.specs.declared.Session.{Session}
+use Rattle.reorder_session.specs.Session.{broken, withWindow}
+use Rattle.reorder_place.specs.Place.{offerSaid}
+use Rattle.reorder.specs.Offer.{offerOf, firstWindow, opened, openSaid, openOf}
+use Rattle.reorder_session.proofs.Said.{outcome-cases, left}
+use Rattle.reorder_session.proofs.Whole.{Whole, whole, unbroken}
+use Rattle.reorder_place.proofs.Taken.{taken-offer}
+use Rattle.reorder.proofs.Opening.{accepted-opening}
+use Rattle.reorder_turn.specs.Turn.{Turn, packet, missing, waiting, turn, turned, turns, turnedAll, described}
+use Rattle.reorder_turn.specs.Refusals.{serveRefusal, drainRefusal}
+use Rattle.reorder_serve.specs.Serve.{serveOf, drainOf}
+use Rattle.reorder_pass.specs.Pass.{passRefusal, passOf}
+use Rattle.reorder_turn.proofs.Turns.{Shows, shows-packet, shows-missing, shows-waiting, shows, no-kind, turns-stop, turns-more}
+use Rattle.reorder_pass.proofs.Ready.{pass-ready}
 use Rattle.reorder_laws.specs.Keeps.{Keeps, CallsKeep}
 
 -- ---- a session that isn't broken, after each step

@@ -8,9 +8,9 @@ use lib.ListN.{length}
 use Rattle.octets.specs.Bytes.{part, put}
 use Rattle.octets.proofs.Codec.{part-length}
 use Rattle.octets.proofs.Store.{put-there, put-before, put-after}
-use Rattle.reorder.specs.Session.{slot}
-use Rattle.reorder_serve.specs.Turn.{Turn, packet, missing, waiting, shown, shownAll}
-use Rattle.reorder_serve.proofs.Turns.{shown-length}
+use Rattle.reorder_session.specs.Session.{slot}
+use Rattle.reorder_turn.specs.Turn.{Turn, packet, missing, waiting, shown, shownAll}
+use Rattle.reorder_turn.proofs.Turns.{shown-length}
 use Rattle.reorder_laws.specs.Serves.{answerAt, piece}
 
 -- a piece stored is there, and every other piece as it was

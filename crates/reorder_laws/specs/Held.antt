@@ -6,11 +6,12 @@ use mathlib.Core.List.{List}
 use mathlib.Core.Logic.{_⊎_}
 use Rattle.octets.specs.Refusal.{answered}
 use Rattle.window.specs.Window.{heldAt}
-use Rattle.reorder.specs.declared.Session.{Session}
-use Rattle.reorder.specs.Session.{slot}
+use Rattle.reorder_session.specs.declared.Session.{Session}
+use Rattle.reorder_session.specs.Session.{slot}
 use Rattle.reorder.specs.Offer.{openOf, offerOf}
-use Rattle.reorder_serve.specs.Turn.{Turn, packet}
-use Rattle.reorder_serve.specs.Serve.{serveOf, drainOf, passOf}
+use Rattle.reorder_turn.specs.Turn.{Turn, packet}
+use Rattle.reorder_serve.specs.Serve.{serveOf, drainOf}
+use Rattle.reorder_pass.specs.Pass.{passOf}
 use Rattle.reorder_laws.specs.Serves.{answerAt, piece}
 
 -- position p is held, with the bytes b in the store

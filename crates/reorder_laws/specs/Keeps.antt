@@ -5,10 +5,11 @@ use mathlib.Core.Bool.{false}
 use mathlib.Core.List.{List}
 use lib.ListN.{length}
 use Rattle.octets.specs.Refusal.{answered}
-use Rattle.reorder.specs.declared.Session.{Session}
-use Rattle.reorder.specs.Session.{broken}
+use Rattle.reorder_session.specs.declared.Session.{Session}
+use Rattle.reorder_session.specs.Session.{broken}
 use Rattle.reorder.specs.Offer.{openOf, offerOf}
-use Rattle.reorder_serve.specs.Serve.{serveOf, drainOf, passOf}
+use Rattle.reorder_serve.specs.Serve.{serveOf, drainOf}
+use Rattle.reorder_pass.specs.Pass.{passOf}
 
 -- from the session s to the session t: a session that isn't broken stays so, next doesn't fall, and the rest is as the opening set it
 pub record Keeps (s t : Session) : Type 0 where

@@ -7,11 +7,13 @@ use lib.ListN.{length}
 use Rattle.octets.specs.Refusal.{answered}
 use Rattle.packet.specs.Fields.{fieldsOf}
 use Rattle.packet.specs.Read.{readRefusal}
-use Rattle.reorder.specs.declared.Session.{Session}
-use Rattle.reorder.specs.Session.{slotStart}
-use Rattle.reorder.specs.Offer.{positionOf, offerOf}
-use Rattle.reorder_serve.specs.Turn.{packet, missing}
-use Rattle.reorder_serve.specs.Serve.{serveOf, passOf}
+use Rattle.reorder_session.specs.declared.Session.{Session}
+use Rattle.reorder_session.specs.Session.{slotStart}
+use Rattle.reorder_place.specs.Place.{positionOf}
+use Rattle.reorder.specs.Offer.{offerOf}
+use Rattle.reorder_turn.specs.Turn.{packet, missing}
+use Rattle.reorder_serve.specs.Serve.{serveOf}
+use Rattle.reorder_pass.specs.Pass.{passOf}
 
 -- a packet b that is accepted and whose position is p + 32, one of those served, is taken by an offer to t, into p's bytes of the store
 pub record TakesAgain (t : Session) (store : List ℕ) (p : ℕ) : Type 0 where

@@ -5,9 +5,9 @@ use mathlib.Core.List.{List, [], _∷_, _++_, map}
 use lib.ListN.{length, replicate, getD}
 use Rattle.octets.specs.Bytes.{part}
 use Rattle.octets.specs.Refusal.{Said, answered}
-use Rattle.reorder.specs.declared.Session.{Session}
-use Rattle.reorder.specs.Outcome.{Outcome}
-use Rattle.reorder_serve.specs.Turn.{Turn, packet, waiting}
+use Rattle.reorder_session.specs.declared.Session.{Session}
+use Rattle.reorder_session.specs.Outcome.{Outcome}
+use Rattle.reorder_turn.specs.Turn.{Turn, packet, waiting}
 use Rattle.reorder_serve.specs.Serve.{serveOf, drainOf}
 
 -- n serves one after another: each gets the session that the one before left, the same store, and an output like `one`

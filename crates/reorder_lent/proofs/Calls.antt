@@ -4,23 +4,26 @@ use mathlib.Core.List.{List, [], _∷_}
 use Prim.Native.Nat.{_+_}
 use mir.Syntax.{w8, w16, w32}
 use Rattle.reorder.specs.declared.Offered.{Offered}
-use Rattle.reorder.specs.Offer.{said, openOf, offerOf}
+use Rattle.reorder_place.specs.Place.{said}
+use Rattle.reorder.specs.Offer.{openOf, offerOf}
 use Rattle.reorder.proofs.Offered as Offered-type
-use Rattle.reorder.proofs.OfferAnswer as OfferAnswer-type
-use Rattle.reorder.proofs.OfferAnswer.Laws as OfferAnswer-laws
+use Rattle.reorder_place.proofs.OfferAnswer as OfferAnswer-type
+use Rattle.reorder_place.proofs.OfferAnswer.Laws as OfferAnswer-laws
 use Rattle.reorder_serve.specs.declared.Served.{Served}
 use Rattle.reorder_serve.specs.declared.Drained.{Drained}
-use Rattle.reorder_serve.specs.declared.Passed.{Passed}
-use Rattle.reorder_serve.specs.Serve.{serveSaid, serveOf, drainSaid, drainOf, counted, descriptions, countSaid, passSaid, passOf}
+use Rattle.reorder_pass.specs.declared.Passed.{Passed}
+use Rattle.reorder_turn.specs.Turn.{serveSaid}
+use Rattle.reorder_serve.specs.Serve.{serveOf, drainSaid, drainOf, counted, descriptions, countSaid}
+use Rattle.reorder_pass.specs.Pass.{passSaid, passOf}
 use Rattle.reorder_serve.proofs.Served as Served-type
-use Rattle.reorder_serve.proofs.ServeAnswer as ServeAnswer-type
-use Rattle.reorder_serve.proofs.ServeAnswer.Laws as ServeAnswer-laws
+use Rattle.reorder_turn.proofs.ServeAnswer as ServeAnswer-type
+use Rattle.reorder_turn.proofs.ServeAnswer.Laws as ServeAnswer-laws
 use Rattle.reorder_serve.proofs.Drained as Drained-type
 use Rattle.reorder_serve.proofs.Report as Report-type
 use Rattle.reorder_serve.proofs.Report.Laws as Report-laws
-use Rattle.reorder_serve.proofs.Passed as Passed-type
-use Rattle.reorder_serve.proofs.PassAnswer as PassAnswer-type
-use Rattle.reorder_serve.proofs.PassAnswer.Laws as PassAnswer-laws
+use Rattle.reorder_pass.proofs.Passed as Passed-type
+use Rattle.reorder_pass.proofs.PassAnswer as PassAnswer-type
+use Rattle.reorder_pass.proofs.PassAnswer.Laws as PassAnswer-laws
 use Rattle.reorder_lent.specs.Lent.{Opens, Offers, Serves, Drains, Passes}
 use Rattle.reorder_lent.proofs.Params.{Param, writes, reads, number}
 use Rattle.reorder_lent.proofs.Result.{Result, result}

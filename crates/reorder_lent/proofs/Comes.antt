@@ -7,13 +7,16 @@ use Rattle.octets.specs.Bytes.{put}
 use Rattle.octets.specs.Refusal.{Said, refused, answered, say}
 use Rattle.packet.specs.Fields.{fieldsOf}
 use Rattle.window.specs.Window.{holding, skipped}
-use Rattle.reorder.specs.declared.Session.{Session}
-use Rattle.reorder.specs.Outcome.{Outcome, outcome}
-use Rattle.reorder.specs.Session.{withWindow, slotStart}
-use Rattle.reorder.specs.Offer.{offerSaid, offerOf, opened, openSaid, openOf}
-use Rattle.reorder.proofs.Said.{left-refused}
-use Rattle.reorder_serve.specs.Turn.{Turn, turn, turned, shown, turns, turnedAll, shownAll}
-use Rattle.reorder_serve.specs.Serve.{serveRefusal, serveOf, drainRefusal, drainOf, counted, passRefusal, passOf}
+use Rattle.reorder_session.specs.declared.Session.{Session}
+use Rattle.reorder_session.specs.Outcome.{Outcome, outcome}
+use Rattle.reorder_session.specs.Session.{withWindow, slotStart}
+use Rattle.reorder_place.specs.Place.{offerSaid}
+use Rattle.reorder.specs.Offer.{offerOf, opened, openSaid, openOf}
+use Rattle.reorder_session.proofs.Said.{left-refused}
+use Rattle.reorder_turn.specs.Turn.{Turn, turn, turned, shown, turns, turnedAll, shownAll}
+use Rattle.reorder_turn.specs.Refusals.{serveRefusal, drainRefusal}
+use Rattle.reorder_serve.specs.Serve.{serveOf, drainOf, counted}
+use Rattle.reorder_pass.specs.Pass.{passRefusal, passOf}
 use Rattle.reorder_lent.specs.Lent.{ComesTo, counting}
 
 abbrev Refused : {A : Type 0} → Said A → Type 0

@@ -15,8 +15,8 @@ use denote.Triple.End.{all}
 use denote.Triple.Spec.{tripleOf}
 use denote.Triple.Statement.{Contract}
 use denote.Triple.Clauses.{Ended, Clauses, closing}
-use Rattle.reorder.specs.declared.Session.{Session}
-use Rattle.reorder.proofs.Session as T
+use Rattle.reorder_session.specs.declared.Session.{Session}
+use Rattle.reorder_session.proofs.Session as T
 use Rattle.reorder_lent.proofs.Params.{Param, lives, slots, In, Out, entry, exit}
 use Rattle.reorder_lent.proofs.Result.{Result}
 

@@ -18,9 +18,9 @@ use denote.Struct.Recorded.{Recorded}
 use denote.Struct.Declared.{Declared, row as row-of}
 use denote.Struct.Laws.{FLaws, Plain}
 use denote.Struct.Laws as LL
-use Rattle.reorder.specs.declared.Session.{Session}
-use Rattle.reorder.proofs.Session as T
-use Rattle.reorder.proofs.Session.Laws as T′
+use Rattle.reorder_session.specs.declared.Session.{Session}
+use Rattle.reorder_session.proofs.Session as T
+use Rattle.reorder_session.proofs.Session.Laws as T′
 
 -- a session's machine value
 abbrev pub mach : Session → Val

@@ -2,17 +2,18 @@
 use Prim.Native.Nat.{ℕ}
 use mathlib.Core.Path.{_≡_, refl}
 use Rattle.octets.specs.Refusal.{Said, refused, answered}
-use Rattle.reorder.specs.declared.OfferAnswer.{OfferAnswer}
-use Rattle.reorder.specs.declared.OfferAnswer.the-variants as Of
-use Rattle.reorder.specs.Offer.{said}
-use Rattle.reorder_serve.specs.declared.ServeAnswer.{ServeAnswer}
-use Rattle.reorder_serve.specs.declared.ServeAnswer.the-variants as Sv
+use Rattle.reorder_place.specs.declared.OfferAnswer.{OfferAnswer}
+use Rattle.reorder_place.specs.declared.OfferAnswer.the-variants as Of
+use Rattle.reorder_place.specs.Place.{said}
+use Rattle.reorder_turn.specs.declared.ServeAnswer.{ServeAnswer}
+use Rattle.reorder_turn.specs.declared.ServeAnswer.the-variants as Sv
 use Rattle.reorder_serve.specs.declared.DrainAnswer.{DrainAnswer}
 use Rattle.reorder_serve.specs.declared.DrainAnswer.the-variants as Dr
-use Rattle.reorder_serve.specs.declared.PassAnswer.{PassAnswer}
-use Rattle.reorder_serve.specs.declared.PassAnswer.the-variants as Ps
-use Rattle.reorder_serve.specs.Turn.{Turn, packet, missing, waiting}
-use Rattle.reorder_serve.specs.Serve.{serveSaid, drainSaid, passSaid}
+use Rattle.reorder_pass.specs.declared.PassAnswer.{PassAnswer}
+use Rattle.reorder_pass.specs.declared.PassAnswer.the-variants as Ps
+use Rattle.reorder_turn.specs.Turn.{Turn, packet, missing, waiting, serveSaid}
+use Rattle.reorder_serve.specs.Serve.{drainSaid}
+use Rattle.reorder_pass.specs.Pass.{passSaid}
 
 pub offer-says : (x : Said ℕ) → (r : OfferAnswer) × (said r ≡ x)
 offer-says (refused n) = (Of.Refused n, refl)

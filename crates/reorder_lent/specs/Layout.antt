@@ -4,10 +4,10 @@ use mathlib.Core.Option.{some}
 use mir.Syntax.{tyInt, w16, w32}
 use mir.Val.{Val, vint, vstruct, vcons, vnil}
 use prog.Memory.{size, align, fieldOf}
-use Rattle.reorder.specs.declared.Session.{Session}
+use Rattle.reorder_session.specs.declared.Session.{Session}
 use Rattle.position.proofs.Anchor.Laws as In-anchor
 use Rattle.window.proofs.Window.Laws as In-window
-use Rattle.reorder.proofs.Session.Laws as In-session
+use Rattle.reorder_session.proofs.Session.Laws as In-session
 
 abbrev pub pair : Val → Val → Val
 pair v w = vstruct (vcons v (vcons w vnil))

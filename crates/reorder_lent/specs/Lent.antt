@@ -3,15 +3,17 @@ use Prim.Native.Nat.{ℕ, _+_}
 use mathlib.Core.Path.{_≡_}
 use mathlib.Core.List.{List, []}
 use Rattle.octets.specs.Refusal.{Said, refused}
-use Rattle.reorder.specs.declared.Session.{Session}
-use Rattle.reorder.specs.declared.OfferAnswer.{OfferAnswer}
-use Rattle.reorder.specs.Outcome.{Outcome}
-use Rattle.reorder.specs.Offer.{said, openOf, offerOf}
-use Rattle.reorder_serve.specs.declared.ServeAnswer.{ServeAnswer}
-use Rattle.reorder_serve.specs.declared.PassAnswer.{PassAnswer}
+use Rattle.reorder_session.specs.declared.Session.{Session}
+use Rattle.reorder_place.specs.declared.OfferAnswer.{OfferAnswer}
+use Rattle.reorder_session.specs.Outcome.{Outcome}
+use Rattle.reorder_place.specs.Place.{said}
+use Rattle.reorder.specs.Offer.{openOf, offerOf}
+use Rattle.reorder_turn.specs.declared.ServeAnswer.{ServeAnswer}
+use Rattle.reorder_pass.specs.declared.PassAnswer.{PassAnswer}
 use Rattle.reorder_serve.specs.declared.Report.{Report}
-use Rattle.reorder_serve.specs.Turn.{Turn}
-use Rattle.reorder_serve.specs.Serve.{serveSaid, serveOf, drainSaid, drainOf, counted, descriptions, countSaid, passSaid, passOf}
+use Rattle.reorder_turn.specs.Turn.{Turn, serveSaid}
+use Rattle.reorder_serve.specs.Serve.{serveOf, drainSaid, drainOf, counted, descriptions, countSaid}
+use Rattle.reorder_pass.specs.Pass.{passSaid, passOf}
 
 -- A call that is lent the session s, and the bytes b to write, comes to o, as the call by value does from s and b:
 -- it says x, and leaves the session t and the bytes c.

@@ -1,9 +1,9 @@
 // The reorder buffer's calls over one session record, lent to each call and updated there (document 01, "The rack").
-use reorder::OfferAnswer;
-use reorder::Session;
-use reorder_serve::PassAnswer;
+use reorder_pass::PassAnswer;
+use reorder_place::OfferAnswer;
 use reorder_serve::Report;
-use reorder_serve::ServeAnswer;
+use reorder_session::Session;
+use reorder_turn::ServeAnswer;
 ghost use Rattle.reorder_lent.specs.Lent.{Opens, Offers, Serves, Drains, Passes};
 ghost use Rattle.reorder_lent.specs.Layout.{SessionLayout};
 
@@ -55,7 +55,7 @@ pub fn drain(session: &mut Session, out: &mut [u8], store: &[u8], budget: u32) -
 pub fn pass(session: &mut Session) -> PassAnswer
     ensures { λ r. ⌜ Passes (now (session .entry)) r (now (session .exit)) ⌝ }
 {
-    let passed = reorder_serve::pass(*session);
+    let passed = reorder_pass::pass(*session);
     *session = passed.session;
     passed.answer
 }

@@ -3,7 +3,7 @@ use Prim.Native.Nat.{ℕ}
 use mathlib.Core.Path.{_≡_, ap, _∙_}
 use mathlib.Core.List.{List, [], _∷_, _++_}
 use Rattle.octets.specs.Refusal.{Said}
-use Rattle.reorder.specs.declared.Session.{Session}
+use Rattle.reorder_session.specs.declared.Session.{Session}
 use Rattle.reorder.specs.Offer.{openOf}
 use Rattle.reorder_serve.specs.Serve.{drainOf}
 use Rattle.reorder_histories.specs.Histories.{Call, offer, serve, drain, pass, Event, offerTells, serveTells, drainTells, passTells, State, start, step, run, Consumer, atStart, atEnd, HigherThresholdLosesNothing}

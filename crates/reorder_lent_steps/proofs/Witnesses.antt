@@ -5,13 +5,16 @@ use mathlib.Core.List.{List, [], _∷_, _++_}
 use native.Mathlib.Omega.{arith}
 use lib.ListN.{length}
 use Rattle.octets.specs.Refusal.{Said, refused, answered, say}
-use Rattle.reorder.specs.declared.Session.{Session}
-use Rattle.reorder.specs.Outcome.{outcome}
-use Rattle.reorder.specs.Offer.{said, openOf, offerOf}
+use Rattle.reorder_session.specs.declared.Session.{Session}
+use Rattle.reorder_session.specs.Outcome.{outcome}
+use Rattle.reorder_place.specs.Place.{said}
+use Rattle.reorder.specs.Offer.{openOf, offerOf}
 use Rattle.reorder_serve.specs.declared.Report.{Report}
-use Rattle.reorder_serve.specs.Turn.{Turn, packet, missing, waiting, turns, turnedAll, shownAll}
-use Rattle.reorder_serve.specs.Serve.{serveSaid, serveOf, drainSaid, drainRefusal, drainOf, counted, descriptions, countSaid, passSaid, passOf}
-use Rattle.reorder_serve.proofs.Turns.{counted-next}
+use Rattle.reorder_turn.specs.Turn.{Turn, packet, missing, waiting, turns, turnedAll, shownAll, serveSaid}
+use Rattle.reorder_serve.specs.Serve.{serveOf, drainSaid, drainOf, counted, descriptions, countSaid}
+use Rattle.reorder_turn.specs.Refusals.{drainRefusal}
+use Rattle.reorder_pass.specs.Pass.{passSaid, passOf}
+use Rattle.reorder_turn.proofs.Turns.{counted-next}
 use Rattle.reorder_histories.specs.Histories.{Call, offer, serve, drain, pass, offerTells, serveTells, drainTells, passTells, State, step, run, Consumer, atStart, atEnd}
 use Rattle.reorder_steps.proofs.Steps.{reads-back}
 use Rattle.reorder_lent.specs.Lent.{Drains}

@@ -3,13 +3,15 @@
 use Prim.Native.Nat.{ℕ}
 use mathlib.Core.Path.{_≡_}
 use mathlib.Core.List.{List, [], _∷_, _++_}
-use Rattle.reorder.specs.declared.Session.{Session}
-use Rattle.reorder.specs.declared.OfferAnswer.{OfferAnswer}
-use Rattle.reorder.specs.Offer.{said, openOf, noSession}
-use Rattle.reorder_serve.specs.declared.ServeAnswer.{ServeAnswer}
-use Rattle.reorder_serve.specs.declared.PassAnswer.{PassAnswer}
+use Rattle.reorder_session.specs.declared.Session.{Session}
+use Rattle.reorder_place.specs.declared.OfferAnswer.{OfferAnswer}
+use Rattle.reorder_place.specs.Place.{said}
+use Rattle.reorder.specs.Offer.{openOf, noSession}
+use Rattle.reorder_turn.specs.declared.ServeAnswer.{ServeAnswer}
+use Rattle.reorder_pass.specs.declared.PassAnswer.{PassAnswer}
 use Rattle.reorder_serve.specs.declared.Report.{Report}
-use Rattle.reorder_serve.specs.Serve.{serveSaid, passSaid}
+use Rattle.reorder_turn.specs.Turn.{serveSaid}
+use Rattle.reorder_pass.specs.Pass.{passSaid}
 use Rattle.reorder_histories.specs.Histories.{
   Call,
   Event,

@@ -1,13 +1,15 @@
 // Demand 3 for histories of calls over a lent session.
 use position::Anchor;
 use reorder::Offered;
-use reorder::Session;
+use reorder_pass::Passed;
 use reorder_serve::Drained;
-use reorder_serve::Passed;
 use reorder_serve::Served;
+use reorder_session::Session;
 use window::Window;
-ghost use Rattle.reorder.specs.Offer.{said, openOf};
-ghost use Rattle.reorder_serve.specs.Serve.{serveSaid, passSaid};
+ghost use Rattle.reorder_place.specs.Place.{said};
+ghost use Rattle.reorder.specs.Offer.{openOf};
+ghost use Rattle.reorder_turn.specs.Turn.{serveSaid};
+ghost use Rattle.reorder_pass.specs.Pass.{passSaid};
 ghost use Rattle.reorder_histories.specs.Histories.{offer, serve, drain, offerTells, serveTells, drainTells, passTells};
 ghost use Rattle.reorder_steps.specs.Steps.{reported, IsStart, IsStep, IsPassStep};
 ghost use Rattle.reorder_lent.specs.Lent.{Opens, Offers, Serves, Drains, Passes};

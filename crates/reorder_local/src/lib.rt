@@ -1,9 +1,9 @@
 // The calls over a lent session, for callers that keep the session in a local: each lends its own copy and returns it.
 use reorder::Offered;
-use reorder::Session;
+use reorder_pass::Passed;
 use reorder_serve::Drained;
-use reorder_serve::Passed;
 use reorder_serve::Served;
+use reorder_session::Session;
 ghost use Rattle.reorder_lent.specs.Lent.{Opens, Offers, Serves, Drains, Passes};
 
 // Opens the session with this packet at position 0. A refused opening returns the session given.

@@ -8,8 +8,8 @@ use lib.ListN.{length, getD, take, length-append}
 use lib.Seq.{take-suc, take-all, length-take-le}
 use Rattle.octets.specs.Bytes.{put}
 use Rattle.octets.proofs.Store.{put-then, put-nothing, put-length}
-use Rattle.reorder_serve.specs.declared.Description.{Description}
-use Rattle.reorder_serve.specs.Turn.{none}
+use Rattle.reorder_turn.specs.declared.Description.{Description}
+use Rattle.reorder_turn.specs.Turn.{none}
 use Rattle.reorder_numbers.specs.Numbers.{listed}
 
 listed-append : (a b : List Description) → listed (a ++ b) ≡ listed a ++ listed b

@@ -5,9 +5,9 @@ use mathlib.Core.List.{List}
 use native.Mathlib.Omega.{arith}
 use Rattle.octets.specs.Bytes.{put}
 use Rattle.octets.specs.Refusal.{Said, refused, answered}
-use Rattle.reorder.specs.declared.Session.{Session}
-use Rattle.reorder.specs.Outcome.{Outcome}
-use Rattle.reorder_serve.specs.Turn.{Turn}
+use Rattle.reorder_session.specs.declared.Session.{Session}
+use Rattle.reorder_session.specs.Outcome.{Outcome}
+use Rattle.reorder_turn.specs.Turn.{Turn}
 use Rattle.reorder_serve.specs.Serve.{drainOf, counted, countSaid, descriptions}
 use Rattle.reorder_lent.proofs.Comes.{RefusalLeaves, drain-refusal}
 use Rattle.reorder_numbers.specs.declared.Answer.{Answer}

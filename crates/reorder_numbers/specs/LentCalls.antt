@@ -5,13 +5,15 @@ use mathlib.Core.Path.{_≡_}
 use mathlib.Core.List.{List}
 use Rattle.octets.specs.Bytes.{put}
 use Rattle.octets.specs.Refusal.{answered}
-use Rattle.reorder.specs.declared.Session.{Session}
-use Rattle.reorder.specs.declared.OfferAnswer.{OfferAnswer}
-use Rattle.reorder.specs.Offer.{said}
-use Rattle.reorder_serve.specs.declared.ServeAnswer.{ServeAnswer}
-use Rattle.reorder_serve.specs.declared.PassAnswer.{PassAnswer}
+use Rattle.reorder_session.specs.declared.Session.{Session}
+use Rattle.reorder_place.specs.declared.OfferAnswer.{OfferAnswer}
+use Rattle.reorder_place.specs.Place.{said}
+use Rattle.reorder_turn.specs.declared.ServeAnswer.{ServeAnswer}
+use Rattle.reorder_pass.specs.declared.PassAnswer.{PassAnswer}
 use Rattle.reorder_serve.specs.declared.Report.{Report}
-use Rattle.reorder_serve.specs.Serve.{serveSaid, drainSaid, passSaid}
+use Rattle.reorder_turn.specs.Turn.{serveSaid}
+use Rattle.reorder_serve.specs.Serve.{drainSaid}
+use Rattle.reorder_pass.specs.Pass.{passSaid}
 use Rattle.reorder_lent.specs.Lent as Over
 use Rattle.reorder_numbers.specs.declared.Answer.{Answer}
 use Rattle.reorder_numbers.specs.declared.Count.{Count}

@@ -3,9 +3,10 @@ use Prim.Native.Nat.{ℕ}
 use mathlib.Core.Path.{_≡_}
 use mathlib.Core.List.{List}
 use Rattle.octets.specs.Refusal.{refused}
-use Rattle.reorder.specs.declared.Session.{Session}
+use Rattle.reorder_session.specs.declared.Session.{Session}
 use Rattle.reorder.specs.Offer.{openOf, offerOf}
-use Rattle.reorder_serve.specs.Serve.{serveOf, drainOf, passOf}
+use Rattle.reorder_serve.specs.Serve.{serveOf, drainOf}
+use Rattle.reorder_pass.specs.Pass.{passOf}
 
 pub record RefusalsHaveNumbers : Type 0 where
   pub opens : (s : Session) (store b : List ℕ) (threshold word n : ℕ) → openOf s store b threshold word .said ≡ refused n → n ≡ 0 → ⊥

@@ -4,12 +4,13 @@ use mathlib.Core.Path.{_≡_}
 use mathlib.Core.List.{List, [], _∷_}
 use Rattle.octets.specs.Bytes.{put}
 use Rattle.octets.specs.Refusal.{Said, refused, answered}
-use Rattle.reorder.specs.declared.Session.{Session}
-use Rattle.reorder.specs.Outcome.{Outcome}
+use Rattle.reorder_session.specs.declared.Session.{Session}
+use Rattle.reorder_session.specs.Outcome.{Outcome}
 use Rattle.reorder.specs.Offer.{openOf, offerOf}
-use Rattle.reorder_serve.specs.declared.Description.{Description}
-use Rattle.reorder_serve.specs.Turn.{Turn, packet, missing, described, describedAll}
-use Rattle.reorder_serve.specs.Serve.{serveOf, drainOf, counted, passOf}
+use Rattle.reorder_turn.specs.declared.Description.{Description}
+use Rattle.reorder_turn.specs.Turn.{Turn, packet, missing, described, describedAll}
+use Rattle.reorder_serve.specs.Serve.{serveOf, drainOf, counted}
+use Rattle.reorder_pass.specs.Pass.{passOf}
 use Rattle.reorder_numbers.specs.declared.Answer.{Answer}
 use Rattle.reorder_numbers.specs.declared.Count.{Count}
 

@@ -1,17 +1,19 @@
 // The reorder buffer's calls by value, with their answers as numbers: what the functions for C and Rust stand on.
-use reorder::OfferAnswer;
-use reorder::Session;
-use reorder_serve::Description;
+use reorder_pass::PassAnswer;
+use reorder_place::OfferAnswer;
 use reorder_serve::DrainAnswer;
-use reorder_serve::PassAnswer;
-use reorder_serve::ServeAnswer;
+use reorder_session::Session;
+use reorder_turn::Description;
+use reorder_turn::ServeAnswer;
 ghost use mathlib.Core.Path.{_≡_};
 ghost use mathlib.Core.List.{[], _∷_};
 ghost use Prim.Native.Nat.{_≤_};
 ghost use lib.ListN.{length};
 ghost use Rattle.octets.specs.Bytes.{put};
-ghost use Rattle.reorder.specs.Offer.{said};
-ghost use Rattle.reorder_serve.specs.Serve.{serveSaid, drainSaid, passSaid};
+ghost use Rattle.reorder_place.specs.Place.{said};
+ghost use Rattle.reorder_turn.specs.Turn.{serveSaid};
+ghost use Rattle.reorder_serve.specs.Serve.{drainSaid};
+ghost use Rattle.reorder_pass.specs.Pass.{passSaid};
 ghost use Rattle.reorder_numbers.specs.LentCalls.{AreLentCalls};
 ghost use Rattle.reorder_numbers.specs.Numbered.{RefusalsHaveNumbers};
 ghost use Rattle.reorder_numbers.specs.Numbers.{held, served, passed, drained, listed, Opens, Offers, Serves, Drains, Passes};
@@ -249,7 +251,7 @@ pub fn drain(
 pub fn pass(session: Session) -> Answered
     ensures { λ r. ⌜ Passes session (r .answer) (r .session) ⌝ }
 {
-    let passed = reorder_serve::pass(session);
+    let passed = reorder_pass::pass(session);
     let answer = passed.answer;
     let after = passed.session;
     Answered {

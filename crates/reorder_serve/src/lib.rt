@@ -1,43 +1,19 @@
-// Serving the reorder buffer in order: serve, drain and pass (document 01, "The rack").
-use reorder::Session;
+// Serving the reorder buffer in order: serve and drain (document 01, "The rack").
+use reorder_session::Session;
+use reorder_turn::Description;
+use reorder_turn::ServeAnswer;
 use window::Window;
 ghost use mathlib.Core.Path.{_≡_};
 ghost use Prim.Native.Nat.{_+_, _≤_, _<_};
 ghost use lib.ListN.{length};
 ghost use Rattle.octets.specs.Refusal.{answered};
-ghost use Rattle.reorder_serve.specs.Turn.{turn, turned, shown, turns, turnedAll, shownAll, describedAll};
-ghost use Rattle.reorder_serve.specs.Serve.{serveSaid, drainSaid, passSaid, serveRefusal, drainRefusal, serveOf, drainOf, counted, descriptions, countSaid, describedSaid, passOf};
-
-// A refusal with its number; the packet at a position; that a position is missing; or that nothing is to be served yet.
-pub enum ServeAnswer {
-    Refused(u8),
-    Packet(u32),
-    Missing(u32),
-    Waiting,
-}
+ghost use Rattle.reorder_turn.specs.Turn.{serveSaid, turn, turned, shown, turns, turnedAll, shownAll, describedAll};
+ghost use Rattle.reorder_serve.specs.Serve.{drainSaid, serveOf, drainOf, counted, descriptions, countSaid};
 
 // What a serve answers, and the session then.
 pub struct Served {
     pub answer: ServeAnswer,
     pub session: Session,
-}
-
-// A refusal with its number, or the position passed.
-pub enum PassAnswer {
-    Refused(u8),
-    Missing(u32),
-}
-
-// What a pass answers, and the session then.
-pub struct Passed {
-    pub answer: PassAnswer,
-    pub session: Session,
-}
-
-// One answer of a drain: kind 0 none, 1 a packet, 2 a missing position.
-pub struct Description {
-    pub kind: u32,
-    pub position: u32,
 }
 
 // A refusal with its number, or how many answers there were.
@@ -77,7 +53,7 @@ fn step(session: Session, out: &mut [u8], store: &[u8], i: u32) -> Served
         };
         return Served {
             answer: ServeAnswer::Packet(next),
-            session: reorder::with_window(session, after),
+            session: reorder_session::with_window(session, after),
         };
     }
     if window::is_held_ahead(window, session.threshold) {
@@ -87,7 +63,7 @@ fn step(session: Session, out: &mut [u8], store: &[u8], i: u32) -> Served
         };
         return Served {
             answer: ServeAnswer::Missing(next),
-            session: reorder::with_window(session, after),
+            session: reorder_session::with_window(session, after),
         };
     }
     Served {
@@ -96,29 +72,13 @@ fn step(session: Session, out: &mut [u8], store: &[u8], i: u32) -> Served
     }
 }
 
-// Refusals 30, 27 and 29 of a serve, or 0.
-fn serve_refusal(session: Session, store_size: usize, out_size: usize) -> u8
-    ensures { λ r. ⌜ r ≡ serveRefusal session «store_size» «out_size» ⌝ }
-{
-    if reorder::is_broken(session) {
-        return 30;
-    }
-    if store_size != 34_560 {
-        return 27;
-    }
-    if out_size < 1080 {
-        return 29;
-    }
-    0
-}
-
 // Serves the next position.
 pub fn serve(session: Session, out: &mut [u8], store: &[u8]) -> Served
     ensures { λ r. ⌜ (serveSaid (r .answer) ≡ serveOf session (now (out .entry)) (now (store .entry)) .said)
         × ((r .session ≡ serveOf session (now (out .entry)) (now (store .entry)) .session)
         × (now (out .exit) ≡ serveOf session (now (out .entry)) (now (store .entry)) .bytes)) ⌝ }
 {
-    let n = serve_refusal(session, store.len(), out.len());
+    let n = reorder_turn::serve_refusal(session, store.len(), out.len());
     if n != 0 {
         return Served {
             answer: ServeAnswer::Refused(n),
@@ -126,49 +86,6 @@ pub fn serve(session: Session, out: &mut [u8], store: &[u8]) -> Served
         };
     }
     step(session, out, store, 0)
-}
-
-// The description of an answer; of Waiting and of a refusal, all zeros.
-fn describe(answer: ServeAnswer) -> Description
-    ensures { λ r. ⌜ r ≡ describedSaid (serveSaid answer) ⌝ }
-{
-    match answer {
-        ServeAnswer::Refused(_) => Description {
-            kind: 0,
-            position: 0,
-        },
-        ServeAnswer::Packet(p) => Description {
-            kind: 1,
-            position: p,
-        },
-        ServeAnswer::Missing(p) => Description {
-            kind: 2,
-            position: p,
-        },
-        ServeAnswer::Waiting => Description {
-            kind: 0,
-            position: 0,
-        },
-    }
-}
-
-// Refusals 30, 27, 29 and 31 of a drain, or 0.
-fn drain_refusal(session: Session, store_size: usize, out_size: usize, budget: u32) -> u8
-    ensures { λ r. ⌜ r ≡ drainRefusal session «store_size» «out_size» budget ⌝ }
-{
-    if reorder::is_broken(session) {
-        return 30;
-    }
-    if store_size != 34_560 {
-        return 27;
-    }
-    if out_size != 34_560 {
-        return 29;
-    }
-    if 32 < budget {
-        return 31;
-    }
-    0
 }
 
 // Serves until a serve waits or the budget is spent.
@@ -190,7 +107,7 @@ fn run(session: Session, out: &mut [u8], store: &[u8], budget: u32) -> Drained
     while i < budget {
         let served = step(now, out, store, i);
         let answer = served.answer;
-        let description = describe(answer);
+        let description = reorder_turn::describe(answer);
         if description.kind == 0 {
             return Drained {
                 answer: Report {
@@ -221,7 +138,7 @@ pub fn drain(session: Session, out: &mut [u8], store: &[u8], budget: u32) -> Dra
         × ((now (out .exit) ≡ drainOf session (now (out .entry)) (now (store .entry)) budget .bytes)
         × (r .session .window .next ≡ session .window .next + countSaid (drainSaid (r .answer .answer)))))) ⌝ }
 {
-    let n = drain_refusal(session, store.len(), out.len(), budget);
+    let n = reorder_turn::drain_refusal(session, store.len(), out.len(), budget);
     if n != 0 {
         let descriptions = [Description {
             kind: 0,
@@ -236,38 +153,4 @@ pub fn drain(session: Session, out: &mut [u8], store: &[u8], budget: u32) -> Dra
         };
     }
     run(session, out, store, budget)
-}
-
-// Passes next over, by hand.
-pub fn pass(session: Session) -> Passed
-    ensures { λ r. ⌜ (passSaid (r .answer) ≡ passOf session .said) × (r .session ≡ passOf session .session) ⌝ }
-{
-    if reorder::is_broken(session) {
-        return Passed {
-            answer: PassAnswer::Refused(30),
-            session,
-        };
-    }
-    let window = session.window;
-    let next = window.next;
-    if next == 1_000_000 {
-        return Passed {
-            answer: PassAnswer::Refused(28),
-            session,
-        };
-    }
-    if window::is_held(window, next) {
-        return Passed {
-            answer: PassAnswer::Refused(26),
-            session,
-        };
-    }
-    let after = Window {
-        next: next + 1,
-        marks: window.marks,
-    };
-    Passed {
-        answer: PassAnswer::Missing(next),
-        session: reorder::with_window(session, after),
-    }
 }

@@ -4,11 +4,11 @@ use mathlib.Core.Path.{_≡_, refl, sym, ap, _∙_}
 use mathlib.Core.List.{List, [], _∷_, _++_, map, append-assoc}
 use lib.ListN.{length, take}
 use Rattle.octets.specs.Refusal.{Said, refused, answered}
-use Rattle.reorder.specs.declared.Session.{Session}
+use Rattle.reorder_session.specs.declared.Session.{Session}
 use Rattle.reorder.specs.Offer.{openOf, offerOf, noSession}
-use Rattle.reorder_serve.specs.Turn.{Turn, packet, missing, waiting, described, describedAll}
+use Rattle.reorder_turn.specs.Turn.{Turn, packet, missing, waiting, described, describedAll}
 use Rattle.reorder_serve.specs.Serve.{drainSaid, drainOf, counted, descriptions}
-use Rattle.reorder_serve.specs.declared.Description.{Description}
+use Rattle.reorder_turn.specs.declared.Description.{Description}
 use Rattle.reorder_serve.specs.declared.Report.{Report}
 use Rattle.reorder_histories.specs.Histories.{Call, offer, drain, Event, offerTells, drainTells, State, step, run, HigherThresholdLosesNothing}
 use Rattle.reorder_steps.specs.Steps.{describedBy, firstOf, reported, IsStart, IsStep, Made, secondOf, Short, HistoriesLoseNothing}

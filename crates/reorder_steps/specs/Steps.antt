@@ -6,12 +6,12 @@ use mathlib.Core.List.{List, [], _∷_, _++_, map}
 use lib.Dec.{eqb}
 use lib.ListN.{take}
 use Rattle.octets.specs.Refusal.{Said, refused, answered}
-use Rattle.reorder.specs.declared.Session.{Session}
-use Rattle.reorder.specs.Outcome.{Outcome}
+use Rattle.reorder_session.specs.declared.Session.{Session}
+use Rattle.reorder_session.specs.Outcome.{Outcome}
 use Rattle.reorder.specs.Offer.{openOf, offerOf, noSession}
-use Rattle.reorder_serve.specs.Turn.{Turn, packet, missing, waiting}
+use Rattle.reorder_turn.specs.Turn.{Turn, packet, missing, waiting}
 use Rattle.reorder_serve.specs.Serve.{drainSaid, drainOf, counted, descriptions}
-use Rattle.reorder_serve.specs.declared.Description.{Description}
+use Rattle.reorder_turn.specs.declared.Description.{Description}
 use Rattle.reorder_serve.specs.declared.Report.{Report}
 use Rattle.reorder_histories.specs.Histories.{Call, offer, drain, pass, Event, offerTells, drainTells, State, start, step, run, Consumer, atStart, OpenedAlike, NothingLost}
 

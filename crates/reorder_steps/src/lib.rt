@@ -1,12 +1,15 @@
 // The calls of the reorder buffer as steps of a history: so demand 3 holds of what they answer and leave.
 use reorder::Offered;
-use reorder::Session;
+use reorder_pass::Passed;
 use reorder_serve::Drained;
-use reorder_serve::Passed;
 use reorder_serve::Served;
+use reorder_session::Session;
 ghost use mathlib.Core.Path.{_≡_};
-ghost use Rattle.reorder.specs.Offer.{said, openOf, offerOf, noSession};
-ghost use Rattle.reorder_serve.specs.Serve.{serveSaid, drainSaid, passSaid, serveOf, drainOf, counted, descriptions, passOf};
+ghost use Rattle.reorder_place.specs.Place.{said};
+ghost use Rattle.reorder.specs.Offer.{openOf, offerOf, noSession};
+ghost use Rattle.reorder_turn.specs.Turn.{serveSaid};
+ghost use Rattle.reorder_serve.specs.Serve.{drainSaid, serveOf, drainOf, counted, descriptions};
+ghost use Rattle.reorder_pass.specs.Pass.{passSaid, passOf};
 ghost use Rattle.reorder_histories.specs.Histories.{offer, serve, drain, offerTells, serveTells, drainTells, passTells};
 ghost use Rattle.reorder_steps.specs.Steps.{reported, IsStart, IsStep, IsPassStep, Short, HistoriesLoseNothing};
 
@@ -78,7 +81,7 @@ pub fn pass_step(session: Session) -> Passed
         × ((r .session ≡ passOf session .session)
         × IsPassStep session (r .session) (passTells (passSaid (r .answer)))) ⌝ }
 {
-    reorder_serve::pass(session)
+    reorder_pass::pass(session)
 }
 
 // A short history: an opening, an offer and a drain, each handed the session and the store that the last one left.

@@ -4,13 +4,13 @@ use crate::cases;
 use crate::registers;
 use crate::registers::SIZE;
 use crate::show;
-use reorder::OfferAnswer;
 use reorder::Offered;
-use reorder::Session;
-use reorder_serve::Description;
+use reorder_pass::PassAnswer;
+use reorder_place::OfferAnswer;
 use reorder_serve::DrainAnswer;
-use reorder_serve::PassAnswer;
-use reorder_serve::ServeAnswer;
+use reorder_session::Session;
+use reorder_turn::Description;
+use reorder_turn::ServeAnswer;
 
 fn store_length(row: u64) -> usize {
     match cases::digit(row, cases::STORE) {

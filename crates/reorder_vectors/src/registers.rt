@@ -1,7 +1,7 @@
 // What rows change: the session, the base packet, and what openings are told.
 use crate::cases;
 use position::Anchor;
-use reorder::Session;
+use reorder_session::Session;
 use window::Window;
 
 pub const SIZE: usize = 11;

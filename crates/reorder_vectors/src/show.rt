@@ -1,5 +1,5 @@
 // Text, numbers and digests on standard output.
-use reorder::Session;
+use reorder_session::Session;
 
 pub(crate) fn text(bytes: &[u8]) {
     io::write_all(libc::STDOUT_FILENO, bytes);

@@ -25,10 +25,11 @@ use Rattle.pedr.specs.Read.{recordRefusal}
 use Rattle.position.specs.declared.Anchor.{Anchor}
 use Rattle.position.specs.Position.{position, publishedTolerance}
 use Rattle.window.specs.Window.{holding}
-use Rattle.reorder.specs.declared.Session.{Session}
-use Rattle.reorder.specs.Offer.{offerSaid, firstWindow}
-use Rattle.reorder_serve.specs.Turn.{missing, waiting, turn}
-use Rattle.reorder_serve.specs.Serve.{serveRefusal}
+use Rattle.reorder_session.specs.declared.Session.{Session}
+use Rattle.reorder_place.specs.Place.{offerSaid}
+use Rattle.reorder.specs.Offer.{firstWindow}
+use Rattle.reorder_turn.specs.Turn.{missing, waiting, turn}
+use Rattle.reorder_turn.specs.Refusals.{serveRefusal}
 
 -- the free fields of a packet with this count and coarse time, all others zero
 unfoldable pub counted : ℕ → ℕ → PacketFields

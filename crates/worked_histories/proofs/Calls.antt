@@ -13,16 +13,19 @@ use Rattle.octets.proofs.Ladder.{answer-said}
 use Rattle.packet.specs.Fields.{fieldsOf}
 use Rattle.window.specs.Window.{heldAt, holding}
 use Rattle.window.proofs.Held.{first-held, held-least, holding-other}
-use Rattle.reorder.specs.declared.Session.{Session}
-use Rattle.reorder.specs.Session.{withWindow, slot}
-use Rattle.reorder.specs.Outcome.{Outcome}
-use Rattle.reorder.specs.Offer.{offerSaid, offerOf, firstWindow, opened, openSaid, openOf}
-use Rattle.reorder.proofs.Said.{said-is, left, left-refused}
-use Rattle.reorder.proofs.Taken.{taken-offer}
-use Rattle.reorder_serve.specs.Turn.{Turn, packet, waiting, turn, turned, shown, turns, turnedAll}
-use Rattle.reorder_serve.specs.Serve.{serveRefusal, serveOf, drainRefusal, drainOf, passRefusal, passOf}
-use Rattle.reorder_serve.proofs.Turns.{shows}
-use Rattle.reorder_serve.proofs.Ready.{serve-ready}
+use Rattle.reorder_session.specs.declared.Session.{Session}
+use Rattle.reorder_session.specs.Session.{withWindow, slot}
+use Rattle.reorder_session.specs.Outcome.{Outcome}
+use Rattle.reorder_place.specs.Place.{offerSaid}
+use Rattle.reorder.specs.Offer.{offerOf, firstWindow, opened, openSaid, openOf}
+use Rattle.reorder_session.proofs.Said.{said-is, left, left-refused}
+use Rattle.reorder_place.proofs.Taken.{taken-offer}
+use Rattle.reorder_turn.specs.Turn.{Turn, packet, waiting, turn, turned, shown, turns, turnedAll}
+use Rattle.reorder_turn.specs.Refusals.{serveRefusal, drainRefusal}
+use Rattle.reorder_serve.specs.Serve.{serveOf, drainOf}
+use Rattle.reorder_pass.specs.Pass.{passRefusal, passOf}
+use Rattle.reorder_turn.proofs.Turns.{shows}
+use Rattle.reorder_turn.proofs.Ready.{serve-ready}
 use Rattle.reorder_laws.specs.Serves.{answerAt, piece}
 use Rattle.reorder_laws.proofs.Kept.{turns-split, calls-keep}
 use Rattle.reorder_laws.proofs.Pieces.{piece-same, slot-length}

@@ -7,7 +7,8 @@ use mathlib.Core.List.{List, [], _∷_}
 use lib.ListN.{replicate}
 use Rattle.octets.specs.Refusal.{numberSaid}
 use Rattle.reorder.specs.Offer.{offerOf, noSession}
-use Rattle.reorder_serve.specs.Serve.{serveOf, drainOf, passOf}
+use Rattle.reorder_serve.specs.Serve.{serveOf, drainOf}
+use Rattle.reorder_pass.specs.Pass.{passOf}
 use Rattle.reorder_histories.specs.Histories.{Call, offer, serve, drain, pass, took, gave, called-missing, State, step, Consumer, atStart, atEnd}
 use Rattle.reorder_histories.specs.Histories.{OpenedAlike, Served, CalledMissing, StillHeld}
 use Rattle.worked.specs.Numbers.{timedPacket}

@@ -1,10 +1,11 @@
 -- What `judge` says decides what is left.
 use mathlib.Core.Path.{sym, ap, _∙_}
-use Rattle.reorder.specs.Session.{withWindow}
-use Rattle.reorder.specs.Offer.{said, offerOf}
+use Rattle.reorder_session.specs.Session.{withWindow}
+use Rattle.reorder_place.specs.Place.{said}
+use Rattle.reorder.specs.Offer.{offerOf}
 use Rattle.packet.proofs.Accept.{accepted}
-use Rattle.reorder.proofs.Taken.{taken-offer}
-use Rattle.reorder.proofs.Said.{stays, leaves}
+use Rattle.reorder_place.proofs.Taken.{taken-offer}
+use Rattle.reorder_session.proofs.Said.{stays, leaves}
 use borrow.Author.Needs.{needs}
 use Rattle.reorder.proofs.offer.Statement.{statement}
 use Rattle.reorder.proofs.offer.Tie as tie

@@ -1,7 +1,7 @@
 -- The walk of `Walk.antt` over `reorder_serve::pass`.
 use contract.Running.{givenOf}
-use Rattle.reorder_serve.proofs.pass.Symbol as by-value
-use Rattle.reorder_serve.proofs.pass.Met as by-value-met
+use Rattle.reorder_pass.proofs.pass.Symbol as by-value
+use Rattle.reorder_pass.proofs.pass.Met as by-value-met
 use Rattle.reorder_lent.proofs.Walk.{stated}
 use Rattle.reorder_lent.proofs.Calls.{passed, pass-takes, pass-promises}
 use Rattle.reorder_lent.proofs.pass.Key as key
@@ -12,4 +12,4 @@ pub pass-spec : {M : Type 1} → statement M
 unfolding code.routine
 pass-spec 𝓤 H 𝓜 𝓖 𝓡 =
     stated passed by-value.name pass-takes pass-promises 𝓤 H (𝓖 .A) (givenOf 𝓤 H 𝓜 𝓖) 𝓜 𝓡 code.env key.name (code.unfolded 𝓤 H 𝓜 𝓡)
-    by-value.routine code.calls-reorder-serve·pass (by-value-met.met 𝓤 H 𝓜 𝓖 𝓡)
+    by-value.routine code.calls-reorder-pass·pass (by-value-met.met 𝓤 H 𝓜 𝓖 𝓡)

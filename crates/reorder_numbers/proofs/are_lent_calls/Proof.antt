@@ -2,7 +2,8 @@
 use Prim.Native.Nat.{ℕ, _+_}
 use mathlib.Core.Path.{refl, sym, ap, _∙_}
 use Rattle.reorder.specs.Offer.{openOf, offerOf}
-use Rattle.reorder_serve.specs.Serve.{serveOf, drainSaid, drainOf, counted, descriptions, passOf}
+use Rattle.reorder_serve.specs.Serve.{serveOf, drainSaid, drainOf, counted, descriptions}
+use Rattle.reorder_pass.specs.Pass.{passOf}
 use Rattle.reorder_lent.proofs.Says.{offer-says, serve-says, drain-says, pass-says}
 use Rattle.reorder_lent.proofs.Comes.{open-refusal, offer-refusal, serve-refusal, drain-refusal, pass-refusal, pass-bytes, comes}
 use Rattle.reorder_numbers.specs.Numbers.{held, served, passed, drained}

@@ -4,9 +4,9 @@ use mathlib.Core.Path.{_≡_, sym, ap, _∙_}
 use mathlib.Core.List.{List}
 use denote.Ref.{now}
 use Rattle.octets.specs.Bytes.{put}
-use Rattle.reorder_serve.specs.declared.Description.{Description}
+use Rattle.reorder_turn.specs.declared.Description.{Description}
 use Rattle.octets.specs.Refusal.{Said}
-use Rattle.reorder_serve.specs.Turn.{Turn}
+use Rattle.reorder_turn.specs.Turn.{Turn}
 use Rattle.reorder_serve.specs.Serve.{drainSaid, drainOf, counted}
 use Rattle.reorder_numbers.specs.Numbers.{listed, tabled, Drains}
 use Rattle.reorder_numbers.proofs.Said.{drains, table-stays, table-filled}

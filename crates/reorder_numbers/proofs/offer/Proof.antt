@@ -1,7 +1,7 @@
 -- What `offer` promises, in numbers.
 use denote.Ref.{now}
-use Rattle.reorder.specs.Offer.{said}
-use Rattle.reorder_serve.specs.Turn.{packet}
+use Rattle.reorder_place.specs.Place.{said}
+use Rattle.reorder_turn.specs.Turn.{packet}
 use Rattle.reorder_lent.proofs.Comes.{offer-refusal}
 use Rattle.reorder_numbers.proofs.Said.{says}
 use borrow.Author.Needs.{needs}

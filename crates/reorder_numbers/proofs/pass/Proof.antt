@@ -1,6 +1,6 @@
 -- What `pass` promises, in numbers.
-use Rattle.reorder_serve.specs.Turn.{missing}
-use Rattle.reorder_serve.specs.Serve.{passSaid}
+use Rattle.reorder_turn.specs.Turn.{missing}
+use Rattle.reorder_pass.specs.Pass.{passSaid}
 use Rattle.reorder_lent.proofs.Comes.{pass-refusal, pass-bytes}
 use Rattle.reorder_numbers.proofs.Said.{says}
 use borrow.Author.Needs.{needs}

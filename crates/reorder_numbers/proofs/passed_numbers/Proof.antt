@@ -1,7 +1,7 @@
 -- The numbers of each case.
 use mathlib.Core.Path.{sym, ap}
-use Rattle.reorder_serve.specs.declared.PassAnswer.{PassAnswer}
-use Rattle.reorder_serve.specs.Serve.{passSaid}
+use Rattle.reorder_pass.specs.declared.PassAnswer.{PassAnswer}
+use Rattle.reorder_pass.specs.Pass.{passSaid}
 use Rattle.reorder_numbers.specs.Numbers.{passed}
 use borrow.Author.Needs.{needs}
 use Rattle.reorder_numbers.proofs.passed_numbers.Statement.{statement}

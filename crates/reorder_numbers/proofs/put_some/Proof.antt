@@ -6,7 +6,7 @@ use native.Mathlib.Omega.{arith}
 use lib.ListN.{getD}
 use borrow.Author.Needs.{needs}
 use Rattle.octets.specs.Bytes.{put}
-use Rattle.reorder_serve.specs.Turn.{none}
+use Rattle.reorder_turn.specs.Turn.{none}
 use Rattle.reorder_numbers.proofs.Listed.{Stored, stored-none, stored-more, stored-length, stored-all}
 use Rattle.reorder_numbers.proofs.put_some.Statement.{statement}
 use Rattle.reorder_numbers.proofs.put_some.Tie as tie

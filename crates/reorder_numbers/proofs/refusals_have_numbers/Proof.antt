@@ -11,11 +11,14 @@ use Rattle.packet.specs.declared.PacketFields.{PacketFields}
 use Rattle.packet.specs.Fields.{fieldsOf}
 use Rattle.position.specs.Position.{position}
 use Rattle.window.specs.declared.Window.{Window}
-use Rattle.reorder.specs.declared.Session.{Session}
-use Rattle.reorder.specs.Outcome.{outcome, refusing}
-use Rattle.reorder.specs.Offer.{placeRefusal, placed, positionOf, offerRefusal, offerSaid, offerOf, openRefusal, openSaid, openOf}
-use Rattle.reorder_serve.specs.Turn.{turn, turns}
-use Rattle.reorder_serve.specs.Serve.{serveRefusal, serveOf, drainRefusal, drainOf, passRefusal, passOf}
+use Rattle.reorder_session.specs.declared.Session.{Session}
+use Rattle.reorder_session.specs.Outcome.{outcome, refusing}
+use Rattle.reorder_place.specs.Place.{placeRefusal, placed, positionOf, offerRefusal, offerSaid}
+use Rattle.reorder.specs.Offer.{offerOf, openRefusal, openSaid, openOf}
+use Rattle.reorder_turn.specs.Turn.{turn, turns}
+use Rattle.reorder_turn.specs.Refusals.{serveRefusal, drainRefusal}
+use Rattle.reorder_serve.specs.Serve.{serveOf, drainOf}
+use Rattle.reorder_pass.specs.Pass.{passRefusal, passOf}
 use Rattle.reorder_numbers.proofs.refusals_have_numbers.Statement.{statement}
 use Rattle.reorder_numbers.proofs.refusals_have_numbers.Tie as tie
 

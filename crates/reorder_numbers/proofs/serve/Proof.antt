@@ -1,6 +1,6 @@
 -- What `serve` promises, in numbers.
 use denote.Ref.{now}
-use Rattle.reorder_serve.specs.Serve.{serveSaid}
+use Rattle.reorder_turn.specs.Turn.{serveSaid}
 use Rattle.reorder_lent.proofs.Comes.{serve-refusal}
 use Rattle.reorder_numbers.proofs.Said.{says}
 use borrow.Author.Needs.{needs}

@@ -1,7 +1,7 @@
 -- The numbers of each case.
 use mathlib.Core.Path.{sym, ap}
-use Rattle.reorder_serve.specs.declared.ServeAnswer.{ServeAnswer}
-use Rattle.reorder_serve.specs.Serve.{serveSaid}
+use Rattle.reorder_turn.specs.declared.ServeAnswer.{ServeAnswer}
+use Rattle.reorder_turn.specs.Turn.{serveSaid}
 use Rattle.reorder_numbers.specs.Numbers.{served}
 use borrow.Author.Needs.{needs}
 use Rattle.reorder_numbers.proofs.served_numbers.Statement.{statement}

@@ -5,12 +5,13 @@ use native.Mathlib.Omega.{arith}
 use denote.Ref.{now}
 use lib.ListN.{length}
 use Rattle.octets.proofs.Ladder.{say-refused, say-answered}
-use Rattle.reorder.specs.declared.Session.{Session}
-use Rattle.reorder.proofs.Said.{stays, leaves}
-use Rattle.reorder_serve.specs.Turn.{turns}
-use Rattle.reorder_serve.specs.Serve.{drainRefusal, drainOf, counted, descriptions, countSaid}
-use Rattle.reorder_serve.proofs.Turns.{counted-next}
-use Rattle.reorder_serve.proofs.Ready.{drain-ready}
+use Rattle.reorder_session.specs.declared.Session.{Session}
+use Rattle.reorder_session.proofs.Said.{stays, leaves}
+use Rattle.reorder_turn.specs.Turn.{turns}
+use Rattle.reorder_turn.specs.Refusals.{drainRefusal}
+use Rattle.reorder_serve.specs.Serve.{drainOf, counted, descriptions, countSaid}
+use Rattle.reorder_turn.proofs.Turns.{counted-next}
+use Rattle.reorder_turn.proofs.Ready.{drain-ready}
 use borrow.Author.Needs.{needs}
 use Rattle.reorder_serve.proofs.drain.Statement.{statement}
 use Rattle.reorder_serve.proofs.drain.Tie as tie

@@ -4,11 +4,11 @@ use mathlib.Core.Path.{_≡_, refl, sym, ap, _∙_}
 use native.Mathlib.Omega.{arith}
 use denote.Ref.{now}
 use lib.ListN.{length}
-use Rattle.reorder.specs.declared.Session.{Session}
-use Rattle.reorder_serve.specs.declared.Description.{Description}
-use Rattle.reorder_serve.specs.Turn.{turn, shown, described}
-use Rattle.reorder_serve.specs.Serve.{describedSaid}
-use Rattle.reorder_serve.proofs.Turns.{Running, no-kind, shown-length, turns-stop, run-none, run-more, run-done, run-spent}
+use Rattle.reorder_session.specs.declared.Session.{Session}
+use Rattle.reorder_turn.specs.declared.Description.{Description}
+use Rattle.reorder_turn.specs.Turn.{turn, shown, described, describedSaid}
+use Rattle.reorder_serve.proofs.Running.{Running, run-none, run-more, run-done, run-spent}
+use Rattle.reorder_turn.proofs.Turns.{no-kind, shown-length, turns-stop}
 use borrow.Author.Needs.{needs}
 use Rattle.reorder_serve.proofs.run.Statement.{statement}
 use Rattle.reorder_serve.proofs.run.Tie as tie

@@ -4,10 +4,11 @@ use native.Mathlib.Omega.{arith}
 use denote.Ref.{now}
 use lib.ListN.{length}
 use Rattle.octets.proofs.Ladder.{say-refused, say-answered}
-use Rattle.reorder.proofs.Said.{stays, leaves}
-use Rattle.reorder_serve.specs.Turn.{turn}
-use Rattle.reorder_serve.specs.Serve.{serveRefusal, serveOf}
-use Rattle.reorder_serve.proofs.Ready.{ServeReady, serve-ready}
+use Rattle.reorder_session.proofs.Said.{stays, leaves}
+use Rattle.reorder_turn.specs.Turn.{turn}
+use Rattle.reorder_turn.specs.Refusals.{serveRefusal}
+use Rattle.reorder_serve.specs.Serve.{serveOf}
+use Rattle.reorder_turn.proofs.Ready.{ServeReady, serve-ready}
 use borrow.Author.Needs.{needs}
 use Rattle.reorder_serve.proofs.serve.Statement.{statement}
 use Rattle.reorder_serve.proofs.serve.Tie as tie

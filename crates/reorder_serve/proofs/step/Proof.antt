@@ -8,8 +8,8 @@ use denote.Ref.{now}
 use lib.ListN.{take, drop}
 use Rattle.octets.specs.Bytes.{part, put}
 use Rattle.window.specs.Window.{heldAt}
-use Rattle.reorder.specs.Session.{withWindow, slotStart}
-use Rattle.reorder_serve.proofs.Turns.{turn-packet, turn-missing, turn-waiting, did}
+use Rattle.reorder_session.specs.Session.{withWindow, slotStart}
+use Rattle.reorder_turn.proofs.Turns.{turn-packet, turn-missing, turn-waiting, did}
 use borrow.Author.Needs.{needs}
 use Rattle.reorder_serve.proofs.step.Statement.{statement}
 use Rattle.reorder_serve.proofs.step.Tie as tie

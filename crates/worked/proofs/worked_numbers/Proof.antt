@@ -14,11 +14,11 @@ use Rattle.pedr.specs.Fields.{timeOf}
 use Rattle.pedr.specs.Read.{recordRefusal}
 use Rattle.position.specs.Position.{position}
 use Rattle.window.specs.Window.{heldAt, someAmong, someHeld}
-use Rattle.reorder.specs.Session.{pastEnd, broken}
-use Rattle.reorder.specs.Outcome.{refusing}
-use Rattle.reorder.specs.Offer.{placeRefusal, placed, offerRefusal, offerSaid}
-use Rattle.reorder_serve.specs.Turn.{turn}
-use Rattle.reorder_serve.specs.Serve.{serveRefusal}
+use Rattle.reorder_session.specs.Session.{pastEnd, broken}
+use Rattle.reorder_session.specs.Outcome.{refusing}
+use Rattle.reorder_place.specs.Place.{placeRefusal, placed, offerRefusal, offerSaid}
+use Rattle.reorder_turn.specs.Turn.{turn}
+use Rattle.reorder_turn.specs.Refusals.{serveRefusal}
 use Rattle.worked.specs.Numbers.{counted, timedPacket, zeroPacket, zeroRecord, qualityRecord, timeRecord}
 use Rattle.worked.proofs.worked_numbers.Statement.{statement}
 use Rattle.worked.proofs.worked_numbers.Tie as tie

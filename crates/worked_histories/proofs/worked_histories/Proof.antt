@@ -14,12 +14,14 @@ use Rattle.packet.specs.Read.{readRefusal}
 use Rattle.packet_writer.specs.Write.{histogramOf, unsummed, packetOf}
 use Rattle.position.specs.Position.{position}
 use Rattle.window.specs.Window.{heldAt, someAmong, someHeld}
-use Rattle.reorder.specs.declared.Session.{Session}
-use Rattle.reorder.specs.Session.{pastEnd, broken}
-use Rattle.reorder.specs.Outcome.{refusing}
-use Rattle.reorder.specs.Offer.{placeRefusal, placed, offerRefusal, offerSaid, opened, openRefusal, openSaid}
-use Rattle.reorder_serve.specs.Turn.{packet, missing, waiting, turn, turns, turnedAll}
-use Rattle.reorder_serve.specs.Serve.{serveRefusal, drainRefusal, passRefusal}
+use Rattle.reorder_session.specs.declared.Session.{Session}
+use Rattle.reorder_session.specs.Session.{pastEnd, broken}
+use Rattle.reorder_session.specs.Outcome.{refusing}
+use Rattle.reorder_place.specs.Place.{placeRefusal, placed, offerRefusal, offerSaid}
+use Rattle.reorder.specs.Offer.{opened, openRefusal, openSaid}
+use Rattle.reorder_turn.specs.Turn.{packet, missing, waiting, turn, turns, turnedAll}
+use Rattle.reorder_turn.specs.Refusals.{serveRefusal, drainRefusal}
+use Rattle.reorder_pass.specs.Pass.{passRefusal}
 use Rattle.reorder_histories.specs.Histories.{Event, took, gave, called-missing, offers}
 use Rattle.worked.specs.Numbers.{counted, timedPacket}
 use Rattle.worked_histories.specs.Examples.{packetAt, filled, noPacket, lateLess, lateMore, absentLess, absentMore, begun}

@@ -1,0 +1,96 @@
+-- The ladder of refusals, and past it the place.
+use Prim.Native.Nat.{ℕ}
+use mathlib.Core.Path.{_≡_, sym, ap, _∙_}
+use mathlib.Core.Bool.{true, not}
+use native.Mathlib.Omega.{arith}
+use denote.Ref.{now}
+use Rattle.octets.specs.Refusal.{numberSaid}
+use Rattle.octets.proofs.Ladder.{pass, fail, pass-eq, fail-eq, answer-said}
+use Rattle.packet.specs.declared.PacketAnswer.{PacketAnswer}
+use Rattle.packet.specs.Fields.{fieldsOf}
+use Rattle.packet.specs.Read.{readRefusal, said}
+use Rattle.reorder_session.specs.Session.{broken}
+use Rattle.reorder_place.specs.Place.{placed, positionOf, offerRefusal, offerSaid}
+use Rattle.reorder_session.proofs.Said.{refusing-now, refusing-next}
+use Rattle.reorder_place.proofs.Handed.{handed-on}
+use borrow.Author.Needs.{needs}
+use Rattle.reorder_place.proofs.judge.Statement.{statement}
+use Rattle.reorder_place.proofs.judge.Tie as tie
+
+-- the session isn't broken, and the store has its size: the ladder goes on with the reader's number
+whole : (c : tie.Else1) → not (broken (c .before .before .before .args .session)) ≡ true
+whole c = ap not (sym (c .before .is-broken .ensures) ∙ c .if1 .left)
+
+ready : (c : tie.Else2) (r : ℕ) → let k = c .before .before .before .before in
+    r ≡ readRefusal (now (k .args .packet)) (k .args .session .«sum_word»)
+    → r ≡ offerRefusal (k .args .session) (k .args .store-size) (now (k .args .packet))
+unfolding offerRefusal
+ready c r e = pass _ 30 _ r (whole (c .before)) (pass-eq _ _ 27 _ r (c .if2 .left) e)
+
+is-broken-requires : tie.Need-is-broken-requires
+is-broken-requires c κs = search needs
+
+returns : tie.Need-returns
+unfolding offerRefusal offerSaid
+returns c = refusing-now 30 _ _ (fail _ 30 _ (ap not (sym (c .before .is-broken .ensures) ∙ c .if1 .taken))) (λ q. omega arith)
+
+returns-2 : tie.Need-returns-2
+unfolding offerRefusal offerSaid
+returns-2 c = refusing-now 27 _ _ (pass _ 30 _ 27 (whole (c .before)) (fail-eq _ _ 27 _ (c .if2 .taken))) (λ q. omega arith)
+
+cast-read-answer : tie.Need-cast-read-answer
+cast-read-answer c = search needs
+
+read-answer-requires : tie.Need-read-answer-requires
+read-answer-requires c κs = search needs
+
+enum-known-answer : tie.Need-enum-known-answer
+enum-known-answer c = search needs
+
+enum-told : tie.Need-enum-told
+enum-told c = search needs
+
+refusal-number-requires : tie.Need-refusal-number-requires
+refusal-number-requires c κs = search needs
+
+returns-3 : tie.Need-returns-3
+unfolding offerRefusal offerSaid
+returns-3 c =
+    let t = c .before .enum-told .given .1 in
+    let a = c .before .before .before in
+    let h = handed-on _ _ _ _ (ap said (sym t) ∙ a .read-answer .ensures) (c .refusal-number .ensures ∙ ap (λ (x : PacketAnswer). numberSaid (said x)) t) in
+    refusing-now _ _ _ (ready (a .before .before) _ (h .0)) (h .1)
+
+locate-requires : tie.Need-locate-requires
+locate-requires c κs = search needs
+
+place-requires : tie.Need-place-requires
+place-requires c κs = search needs
+
+returns-4 : tie.Need-returns-4
+unfolding offerRefusal offerSaid
+returns-4 c =
+    let t = c .before .before .before .answer .given .1 in
+    let a = c .before .before .before .before .before in
+    let s = a .before .before .before .before .before .before .args .session in
+    let b = now (a .before .before .before .before .before .before .args .packet) in
+    let r = answer-said (readRefusal b (s .«sum_word»)) (fieldsOf b) _ (ap said (sym t) ∙ a .read-answer .ensures) in
+    refusing-next _ _ _ (sym (ready (a .before .before) 0 (sym (r .0))))
+    (c .place .ensures ∙ ap (placed (s .window)) (c .before .locate .ensures ∙ ap (positionOf s) (r .1)))
+
+pub judge-spec : {M : Type 1} → statement M
+judge-spec =
+    tie.close
+    (tie.spec
+    is-broken-requires
+    returns
+    returns-2
+    cast-read-answer
+    read-answer-requires
+    enum-known-answer
+    enum-told
+    refusal-number-requires
+    returns-3
+    locate-requires
+    place-requires
+    returns-4)

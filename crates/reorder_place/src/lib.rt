@@ -1,0 +1,60 @@
+// What an offer of a packet answers: where the packet is held, or why it is refused (document 01, "The rack").
+use packet::PacketAnswer;
+use position::Located;
+use reorder_session::Session;
+use window::Window;
+ghost use mathlib.Core.Path.{_≡_};
+ghost use Rattle.position.specs.Position as at;
+ghost use Rattle.reorder_place.specs.Place.{said, placed, offerSaid};
+
+// A refusal with its number, or the position that the packet is held at. An opening holds its packet at position 0.
+pub enum OfferAnswer {
+    Refused(u8),
+    Held(u32),
+}
+
+// Where a packet is held, by its position: refusals 21 to 25, or the position.
+fn place(window: Window, located: Located) -> OfferAnswer
+    ensures { λ r. ⌜ said r ≡ placed window (at.said located) ⌝ }
+{
+    let Located::At(p) = located else {
+        return OfferAnswer::Refused(21);
+    };
+    if 999_999 < p {
+        return OfferAnswer::Refused(22);
+    }
+    if p < window.next as i64 {
+        return OfferAnswer::Refused(23);
+    }
+    let n = p as u32;
+    if window::is_held(window, n) {
+        return OfferAnswer::Refused(24);
+    }
+    if 31 < n - window.next {
+        return OfferAnswer::Refused(25);
+    }
+    OfferAnswer::Held(n)
+}
+
+// What an offer answers.
+pub fn judge(session: Session, store_size: usize, packet: &[u8]) -> OfferAnswer
+    ensures { λ r. ⌜ said r ≡ offerSaid session «store_size» (now (packet .entry)) ⌝ }
+{
+    if reorder_session::is_broken(session) {
+        return OfferAnswer::Refused(30);
+    }
+    if store_size != 34_560 {
+        return OfferAnswer::Refused(27);
+    }
+    let answer = packet::read_answer(packet, session.sum_word as usize);
+    let PacketAnswer::Accepted(fields) = answer else {
+        return OfferAnswer::Refused(packet::refusal_number(answer));
+    };
+    let located = position::locate(
+        session.anchor,
+        fields.count,
+        fields.coarse_time,
+        position::TOLERANCE,
+    );
+    place(session.window, located)
+}

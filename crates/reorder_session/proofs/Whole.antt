@@ -1,0 +1,59 @@
+-- A session that isn't broken, as facts about its fields.
+use Prim.Native.Nat.{ℕ, _≤_}
+use mathlib.Core.Path.{_≡_, refl}
+use mathlib.Core.Bool.{true, false}
+use native.Mathlib.Decide.{decLe}
+use native.Mathlib.Omega.{arith}
+use borrow.Author.Tests.{ltb-false, le-ltb}
+use lib.Dec.{ltb}
+use Rattle.window.specs.Window.{heldAt, someHeld}
+use Rattle.window.proofs.Tests.{or-neither}
+use Rattle.window.proofs.Held.{held-none, none-held}
+use Rattle.reorder_session.specs.declared.Session.{Session}
+use Rattle.reorder_session.specs.Session.{outside, pastEnd, broken}
+
+pub record Whole (s : Session) : Type 0 where
+  pub count : s .anchor .count ≤ 16383
+  pub threshold-least : 1 ≤ s .threshold
+  pub threshold-most : s .threshold ≤ 31
+  pub word-least : 53 ≤ s .«sum_word»
+  pub word-most : s .«sum_word» ≤ 539
+  pub next-most : s .window .next ≤ 1000000
+  pub held-most : (p : ℕ) → heldAt (s .window) p ≡ true → p ≤ 999999
+
+pub whole : (s : Session) → broken s ≡ false → Whole s
+unfolding broken pastEnd
+whole s e =
+    let c1 = or-neither (ltb 16383 (s .anchor .count)) _ e in
+    let c2 = or-neither (outside 1 31 (s .threshold)) _ (c1 .1) in
+    let c3 = or-neither (outside 53 539 (s .«sum_word»)) _ (c2 .1) in
+    let c4 = or-neither (ltb 1000000 (s .window .next)) _ (c3 .1) in
+    let h = or-neither (ltb (s .threshold) 1) _ (c2 .0) in
+    let w = or-neither (ltb (s .«sum_word») 53) _ (c3 .0) in
+    record {
+      count = ltb-false _ _ (c1 .0);
+      threshold-least = ltb-false _ _ (h .0);
+      threshold-most = ltb-false _ _ (h .1);
+      word-least = ltb-false _ _ (w .0);
+      word-most = ltb-false _ _ (w .1);
+      next-most = ltb-false _ _ (c4 .0);
+      held-most = λ p k. most p k (c4 .1) (decLe p 999999);
+    }
+  where
+    most : (p : ℕ) → heldAt (s .window) p ≡ true → someHeld (s .window) 1000000 ≡ false → Dec (p ≤ 999999) → p ≤ 999999
+    most p k n (yes l) = l
+    most p k n (no l) = absurd (held-none (s .window) 1000000 n p k (omega arith))
+
+pub unbroken : (s : Session) → Whole s → broken s ≡ false
+unfolding broken pastEnd
+unbroken s v =
+    let f : someHeld (s .window) 1000000 ≡ false = none-held (s .window) 1000000 (λ p k l. omega (arith, v .held-most p k)) in
+    rw (
+      le-ltb 16383 (s .anchor .count) (v .count),
+      le-ltb (s .threshold) 1 (v .threshold-least),
+      le-ltb 31 (s .threshold) (v .threshold-most),
+      le-ltb (s .«sum_word») 53 (v .word-least),
+      le-ltb 539 (s .«sum_word») (v .word-most),
+      le-ltb 1000000 (s .window .next) (v .next-most),
+      f,
+    ) refl

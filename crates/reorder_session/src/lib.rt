@@ -1,0 +1,49 @@
+// The session of a reorder buffer (document 01, "The rack").
+use position::Anchor;
+use window::Window;
+ghost use mathlib.Core.Path.{_≡_};
+ghost use Rattle.reorder_session.specs.Session.{pastEnd, broken, withWindow};
+
+// What a reorder buffer keeps between calls; the held bytes live in a store that the caller lends.
+#[repr(C)]
+pub struct Session {
+    pub anchor: Anchor,
+    pub sum_word: u16,
+    pub threshold: u32,
+    pub window: Window,
+}
+
+// Whether next is over 1,000,000, or a held position over 999,999.
+fn is_past_end(window: Window) -> bool
+    ensures { λ r. ⌜ r ≡ pastEnd window ⌝ }
+{
+    if 1_000_000 < window.next {
+        return true;
+    }
+    window::is_held_ahead(window, 1_000_000 - window.next)
+}
+
+// Whether the session is broken: refusal 30.
+pub fn is_broken(session: Session) -> bool
+    ensures { λ r. ⌜ r ≡ broken session ⌝ }
+{
+    let count = session.anchor.count;
+    let threshold = session.threshold;
+    let sum_word = session.sum_word;
+    let past_end = is_past_end(session.window);
+    (16_383 < count)
+        | (((threshold < 1) | (31 < threshold)) | (((sum_word < 53) | (539 < sum_word)) | past_end))
+}
+
+// The session with another window.
+pub fn with_window(session: Session, window: Window) -> Session
+    ensures { λ r. ⌜ r ≡ withWindow session window ⌝ }
+{
+    let anchor = session.anchor;
+    Session {
+        anchor,
+        sum_word: session.sum_word,
+        threshold: session.threshold,
+        window,
+    }
+}

@@ -1,0 +1,78 @@
+// What serving the reorder buffer answers: a turn, its description, and the refusals of serve and drain (document 01, "The rack").
+use reorder_session::Session;
+ghost use mathlib.Core.Path.{_≡_};
+ghost use Rattle.reorder_turn.specs.Turn.{serveSaid, describedSaid};
+ghost use Rattle.reorder_turn.specs.Refusals.{serveRefusal, drainRefusal};
+
+// A refusal with its number; the packet at a position; that a position is missing; or that nothing is to be served yet.
+pub enum ServeAnswer {
+    Refused(u8),
+    Packet(u32),
+    Missing(u32),
+    Waiting,
+}
+
+// One answer of a drain: kind 0 none, 1 a packet, 2 a missing position.
+pub struct Description {
+    pub kind: u32,
+    pub position: u32,
+}
+
+// The description of an answer; of Waiting and of a refusal, all zeros.
+pub fn describe(answer: ServeAnswer) -> Description
+    ensures { λ r. ⌜ r ≡ describedSaid (serveSaid answer) ⌝ }
+{
+    match answer {
+        ServeAnswer::Refused(_) => Description {
+            kind: 0,
+            position: 0,
+        },
+        ServeAnswer::Packet(p) => Description {
+            kind: 1,
+            position: p,
+        },
+        ServeAnswer::Missing(p) => Description {
+            kind: 2,
+            position: p,
+        },
+        ServeAnswer::Waiting => Description {
+            kind: 0,
+            position: 0,
+        },
+    }
+}
+
+// Refusals 30, 27 and 29 of a serve, or 0.
+pub fn serve_refusal(session: Session, store_size: usize, out_size: usize) -> u8
+    ensures { λ r. ⌜ r ≡ serveRefusal session «store_size» «out_size» ⌝ }
+{
+    if reorder_session::is_broken(session) {
+        return 30;
+    }
+    if store_size != 34_560 {
+        return 27;
+    }
+    if out_size < 1080 {
+        return 29;
+    }
+    0
+}
+
+// Refusals 30, 27, 29 and 31 of a drain, or 0.
+pub fn drain_refusal(session: Session, store_size: usize, out_size: usize, budget: u32) -> u8
+    ensures { λ r. ⌜ r ≡ drainRefusal session «store_size» «out_size» budget ⌝ }
+{
+    if reorder_session::is_broken(session) {
+        return 30;
+    }
+    if store_size != 34_560 {
+        return 27;
+    }
+    if out_size != 34_560 {
+        return 29;
+    }
+    if 32 < budget {
+        return 31;
+    }
+    0
+}
