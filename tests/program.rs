@@ -6,8 +6,13 @@ use crate::random::Random;
 use crate::reference::{check_piece, program_text, AEDR_HEADER, AEDR_RECORD, PUBLISHED_SUM_WORD};
 use std::fs::File;
 use std::io::{self, Write};
+use std::os::fd::OwnedFd;
+use std::os::unix::net::UnixStream;
 use std::process::{Command, Output, Stdio};
 use std::thread;
+
+/// The program reads and prints 213 records in a turn.
+const TURN: usize = 213 * AEDR_RECORD;
 
 pub fn program(harness: &mut Harness, random: &Random, path: &str) {
     for length in [
@@ -21,8 +26,8 @@ pub fn program(harness: &mut Harness, random: &Random, path: &str) {
         1_231,
         1_235,
         2_460,
-        213 * 1_230,
-        213 * 1_230 + 1,
+        TURN,
+        TURN + 1,
     ] {
         compare(harness, random, path, &vec![0; length]);
     }
@@ -33,6 +38,10 @@ pub fn program(harness: &mut Harness, random: &Random, path: &str) {
         compare(harness, random, path, &input[..input.len() - cut]);
     }
     fail(harness, path);
+    for length in [0, 1, 1_230, TURN - 1, TURN, TURN + 1, 2 * TURN + 5_000] {
+        let input = aedr(random, length.div_ceil(AEDR_RECORD));
+        break_off(harness, path, &input[..length]);
+    }
 }
 
 /// Records of which a third is accepted.
@@ -109,4 +118,40 @@ fn fail(harness: &mut Harness, path: &str) {
         Err(error) => harness.differ(call, format_args!("cannot be run: {error}")),
     }
     harness.program_runs += 1;
+}
+
+/// An input that can be read so far, and whose next read fails: the lines of the turns that were read whole, no total, something on standard
+/// error.
+fn break_off(harness: &mut Harness, path: &str, input: &[u8]) {
+    let call = format_args!("{path}, input that breaks off after {} bytes", input.len());
+    let output = match run_broken(path, input) {
+        Ok(output) => output,
+        Err(error) => harness.differ(call, format_args!("cannot be run: {error}")),
+    };
+    let text = String::from_utf8_lossy(&output.stdout);
+    let whole = program_text(&input[..input.len() / TURN * TURN]);
+    let lines: Vec<&str> = text.split_inclusive('\n').collect();
+    let mut expected: Vec<&str> = whole.split_inclusive('\n').collect();
+    expected.pop();
+    harness.same_items(call, "line", &lines, &expected);
+    harness.same(call, output.stderr.is_empty(), false);
+    harness.program_runs += 1;
+}
+
+/// A socket that is closed with a byte unread resets the connection: the other end can read what was sent, and then gets an error.
+fn run_broken(path: &str, input: &[u8]) -> io::Result<Output> {
+    let (mut ours, mut theirs) = UnixStream::pair()?;
+    theirs.write_all(&[0])?;
+    let child = Command::new(path)
+        .stdin(OwnedFd::from(theirs))
+        .stdout(Stdio::piped())
+        .stderr(Stdio::piped())
+        .spawn()?;
+    thread::scope(|scope| {
+        scope.spawn(move || {
+            // A child that stops reading shows in its output.
+            let _ = ours.write_all(input);
+        });
+        child.wait_with_output()
+    })
 }
