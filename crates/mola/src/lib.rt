@@ -10,7 +10,7 @@ ghost use mathlib.Core.Path.{_≡_};
 ghost use Rattle.checksum.specs.Sum.{packetSum};
 ghost use Rattle.packet.specs.Read.{readRefusal, readSaid};
 ghost use Rattle.packet_writer.specs.Write.{writeRefusal, writeBytes};
-ghost use Rattle.pedr.specs.Read.{recordRefusal};
+ghost use Rattle.pedr_check.specs.Refusal.{recordRefusal};
 ghost use Rattle.reorder_numbers.specs.Numbers.{Opens, Offers, Serves, Drains, Passes};
 ghost use Rattle.mola.specs.Layout.{StructLayouts};
 ghost use Rattle.mola.specs.Read.{noFields, inNumbers};
@@ -109,7 +109,7 @@ pub extern "C" fn mola_write_packet(
 pub extern "C" fn mola_check_record(bytes: &[u8]) -> u8
     ensures { λ r. ⌜ r ≡ recordRefusal (now (bytes .entry)) ⌝ }
 {
-    pedr::record_refusal(bytes)
+    pedr_check::record_refusal(bytes)
 }
 
 // Opens the session with this packet at position 0. A refused opening leaves the session as it came.

@@ -1,4 +1,1 @@
-pub mod Time
-pub mod Fields
-pub mod Arrays
 pub mod Read

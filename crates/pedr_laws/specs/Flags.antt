@@ -12,8 +12,8 @@ use Rattle.pedr_flags.specs.Descriptor.{failed, descriptorOf}
 use Rattle.pedr_flags.specs.Class.{classOf, classNumber}
 use Rattle.pedr_flags.specs.Encoder.{encoderOf}
 use Rattle.pedr_flags.specs.declared.Encoder.{Encoder}
-use Rattle.pedr.specs.Fields.{fieldsOf}
-use Rattle.pedr.specs.Read.{recordRefusal}
+use Rattle.pedr_fields.specs.Fields.{fieldsOf}
+use Rattle.pedr_check.specs.Refusal.{recordRefusal}
 
 -- the byte of two encoders' bits
 abbrev pub encoderByte : Encoder → ℕ

@@ -5,10 +5,10 @@ use mathlib.Core.List.{List}
 use lib.ListN.{getD}
 use Rattle.pedr_flags.specs.Quality.{goodShot}
 use Rattle.pedr_flags.specs.Encoder.{encoderOf}
-use Rattle.pedr.specs.Fields.{fieldsOf}
-use Rattle.pedr.specs.Arrays.{shotClass, noFailures, arraysOf}
-use Rattle.pedr.specs.declared.RecordFields.{RecordFields}
-use Rattle.pedr.specs.declared.RecordArrays.{RecordArrays}
+use Rattle.pedr_fields.specs.Fields.{fieldsOf}
+use Rattle.pedr_arrays.specs.Arrays.{shotClass, noFailures, arraysOf}
+use Rattle.pedr_fields.specs.declared.RecordFields.{RecordFields}
+use Rattle.pedr_arrays.specs.declared.RecordArrays.{RecordArrays}
 use Rattle.pedr_shot.specs.Shot.{shotOf}
 use Rattle.pedr_shot.specs.declared.ShotFields.{ShotFields}
 

@@ -8,7 +8,7 @@ use Rattle.pedr_flags.specs.Quality.{goodShot}
 use Rattle.pedr_flags.specs.Descriptor.{failuresOf}
 use Rattle.pedr_flags.specs.Class.{classOf}
 use Rattle.pedr_flags.specs.Encoder.{encoderOf}
-use Rattle.pedr.specs.Read.{recordRefusal}
+use Rattle.pedr_check.specs.Refusal.{recordRefusal}
 use Rattle.pedr_shot.specs.declared.ShotFields.{ShotFields}
 use Rattle.pedr_shot.specs.declared.ShotAnswer.{ShotAnswer}
 use Rattle.pedr_shot.specs.declared.ShotAnswer.the-variants.{Refused, Accepted}

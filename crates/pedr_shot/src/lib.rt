@@ -32,7 +32,7 @@ pub enum ShotAnswer {
 fn refusal(bytes: &[u8], shot: usize) -> u8
     ensures { λ r. ⌜ r ≡ shotRefusal (now (bytes .entry)) shot ⌝ }
 {
-    let n = pedr::record_refusal(bytes);
+    let n = pedr_check::record_refusal(bytes);
     if n != 0 {
         return n;
     }

@@ -1,12 +1,12 @@
 // The columns that are single numbers, group by group, and the legend.
 use crate::show;
-use pedr::FrameTime;
-use pedr::OrbitPosition;
-use pedr::PacketLink;
-use pedr::Pointing;
-use pedr::Ranges;
-use pedr::Receiver;
-use pedr::RecordFields;
+use pedr_fields::FrameTime;
+use pedr_fields::OrbitPosition;
+use pedr_fields::PacketLink;
+use pedr_fields::Pointing;
+use pedr_fields::Ranges;
+use pedr_fields::Receiver;
+use pedr_fields::RecordFields;
 use pedr_flags::Descriptor;
 use pedr_flags::Quality;
 
@@ -32,7 +32,7 @@ fn show_time(t: FrameTime) {
     show::text(b": time");
     show::signed_32(t.whole);
     show::signed_32(t.micros);
-    show::signed(pedr::time_in_micros(t));
+    show::signed(pedr_fields::time_in_micros(t));
 }
 
 fn show_position(p: OrbitPosition) {

@@ -5,7 +5,7 @@ use crate::rows;
 use crate::shots;
 use crate::show;
 use pedr::RecordAnswer;
-use pedr::RecordArrays;
+use pedr_arrays::RecordArrays;
 use pedr_shot::ShotAnswer;
 use pedr_shot::ShotFields;
 

@@ -1,8 +1,8 @@
 // The columns of shots and channels.
 use crate::fields;
 use crate::show;
-use pedr::ChannelArrays;
-use pedr::ShotArrays;
+use pedr_arrays::ChannelArrays;
+use pedr_arrays::ShotArrays;
 use pedr_flags::Class;
 use pedr_shot::ShotFields;
 ghost use Prim.Native.Nat.{_<_};

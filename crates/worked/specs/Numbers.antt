@@ -19,9 +19,9 @@ use Rattle.pedr_layout.specs.Layout.{_u1, timeWhole, timeMicros, qualityNumber,
 use Rattle.pedr_flags.specs.Quality.{goodShot, qualityOf}
 use Rattle.pedr_flags.specs.Descriptor.{byteOfBit, placeOfBit, failed}
 use Rattle.pedr_flags.specs.Encoder.{encoderOf}
-use Rattle.pedr.specs.Time.{timeInMicros}
-use Rattle.pedr.specs.Fields.{timeOf}
-use Rattle.pedr.specs.Read.{recordRefusal}
+use Rattle.pedr_fields.specs.Time.{timeInMicros}
+use Rattle.pedr_fields.specs.Fields.{timeOf}
+use Rattle.pedr_check.specs.Refusal.{recordRefusal}
 use Rattle.position.specs.declared.Anchor.{Anchor}
 use Rattle.position.specs.Position.{position, publishedTolerance}
 use Rattle.window.specs.Window.{holding}

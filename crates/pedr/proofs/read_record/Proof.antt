@@ -2,8 +2,8 @@
 use mathlib.Core.Path.{sym, _∙_}
 use denote.Ref.{now}
 use Rattle.octets.proofs.Ladder.{say-refused, say-answered, after-refused, after-done}
-use Rattle.pedr.specs.Fields.{fieldsOf}
-use Rattle.pedr.specs.Arrays.{arraysOf, noArrays}
+use Rattle.pedr_fields.specs.Fields.{fieldsOf}
+use Rattle.pedr_arrays.specs.Arrays.{arraysOf, noArrays}
 use borrow.Author.Needs.{needs}
 use Rattle.pedr.proofs.read_record.Statement.{statement}
 use Rattle.pedr.proofs.read_record.Tie as tie

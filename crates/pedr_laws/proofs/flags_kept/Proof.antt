@@ -19,8 +19,8 @@ use Rattle.pedr_flags.specs.Quality.{goodCount, qualityOf}
 use Rattle.pedr_flags.specs.Descriptor.{failed, descriptorOf}
 use Rattle.pedr_flags.specs.Class.{classOf, classNumber}
 use Rattle.pedr_flags.specs.Encoder.{encoderOf}
-use Rattle.pedr.specs.Fields.{fieldsOf}
-use Rattle.pedr.specs.Read.{recordRefusal}
+use Rattle.pedr_fields.specs.Fields.{fieldsOf}
+use Rattle.pedr_check.specs.Refusal.{recordRefusal}
 use Rattle.pedr_laws.specs.Flags.{encoderByte, descriptorNumber}
 use Rattle.pedr_laws.proofs.flags_kept.Statement.{statement}
 use Rattle.pedr_laws.proofs.flags_kept.Tie as tie

@@ -5,7 +5,7 @@ use mathlib.Core.List.{List}
 use denote.Ref.{now}
 use Rattle.octets.specs.Refusal.{within}
 use Rattle.octets.proofs.Ladder.{then-zero, passed, within-true, say-refused, say-answered}
-use Rattle.pedr.specs.Read.{recordRefusal}
+use Rattle.pedr_check.specs.Refusal.{recordRefusal}
 use Rattle.pedr_shot.specs.Shot.{shotOf, shotRefusal}
 use borrow.Author.Needs.{needs}
 use Rattle.pedr_shot.proofs.read_shot.Statement.{statement}

@@ -10,8 +10,8 @@ use Rattle.packet.specs.Read.{readRefusal}
 use Rattle.packet_writer.specs.Write.{histogramOf, unsummed, packetOf}
 use Rattle.numbers.specs.Bit.{bitsSet}
 use Rattle.pedr_flags.specs.Quality.{qualityOf}
-use Rattle.pedr.specs.Fields.{timeOf}
-use Rattle.pedr.specs.Read.{recordRefusal}
+use Rattle.pedr_fields.specs.Fields.{timeOf}
+use Rattle.pedr_check.specs.Refusal.{recordRefusal}
 use Rattle.position.specs.Position.{position}
 use Rattle.window.specs.Window.{heldAt, someAmong, someHeld}
 use Rattle.reorder_session.specs.Session.{pastEnd, broken}

@@ -1,0 +1,211 @@
+// The columns of a PEDR record that are several numbers.
+use pedr_flags::Class;
+use pedr_flags::Encoder;
+use pedr_flags::ShotFailures;
+ghost use mathlib.Core.Path.{_≡_};
+ghost use Rattle.octets.specs.Table.{natsAt, intsAt};
+ghost use Rattle.pedr_arrays.specs.Arrays.{classesOf, encodersOf, allFailuresOf, shotArraysOf, channelArraysOf, arraysOf, noArrays};
+
+// The class of one shot. A struct's array may hold structs, not enums.
+pub struct ShotClass {
+    pub class: Class,
+}
+
+// The columns of 20 shots; shot s stands at index s - 1.
+pub struct ShotArrays {
+    pub radius: [u32; 20],
+    pub energy: [u16; 20],
+    pub reflectivity: [u16; 20],
+    pub trigger_channel: [u8; 20],
+    pub pulse_width: [u16; 20],
+    pub optical_width: [u16; 20],
+    pub laser_power: [u16; 20],
+    pub class: [ShotClass; 20],
+    pub encoder: [Encoder; 20],
+    pub failures: [ShotFailures; 20],
+}
+
+// The columns of the 4 channels, in the first half of the frame and then in the second.
+pub struct ChannelArrays {
+    pub noise: [u32; 8],
+    pub thresholds: [u16; 8],
+}
+
+// The columns of several numbers.
+pub struct RecordArrays {
+    pub shots: ShotArrays,
+    pub channels: ChannelArrays,
+    pub xyz: [i32; 3],
+    pub source_header: [u32; 2],
+}
+
+fn read_u16x20(bytes: &[u8], i: usize) -> [u16; 20]
+    ensures { λ r. ⌜ r ≡ natsAt (now (bytes .entry)) i 2 20 ⌝ }
+{
+    let mut numbers = [0u16; 20];
+    octets::read_u16s(bytes, i, &mut numbers);
+    numbers
+}
+
+fn read_u32x20(bytes: &[u8], i: usize) -> [u32; 20]
+    ensures { λ r. ⌜ r ≡ natsAt (now (bytes .entry)) i 4 20 ⌝ }
+{
+    let mut numbers = [0u32; 20];
+    octets::read_u32s(bytes, i, &mut numbers);
+    numbers
+}
+
+fn read_u8x20(bytes: &[u8], i: usize) -> [u8; 20]
+    ensures { λ r. ⌜ r ≡ natsAt (now (bytes .entry)) i 1 20 ⌝ }
+{
+    let mut numbers = [0u8; 20];
+    octets::read_into(bytes, i, &mut numbers);
+    numbers
+}
+
+fn read_classes(bytes: &[u8]) -> [ShotClass; 20]
+    ensures { λ r. ⌜ r ≡ classesOf (now (bytes .entry)) ⌝ }
+{
+    let mut classes = [ShotClass {
+        class: Class::NoTrigger,
+    }; 20];
+    let mut k = 0;
+    while k < 20 {
+        let class = pedr_flags::class_of(octets::u16_at(bytes, 384 + 2 * k));
+        classes[k] = ShotClass { class };
+        k = k + 1;
+    }
+    classes
+}
+
+fn read_encoders(bytes: &[u8]) -> [Encoder; 20]
+    ensures { λ r. ⌜ r ≡ encodersOf (now (bytes .entry)) ⌝ }
+{
+    let mut encoders = [Encoder {
+        start: 0,
+        carried_low: 0,
+        stop: 0,
+        carried_high: 0,
+    }; 20];
+    let mut k = 0;
+    while k < 20 {
+        encoders[k] = pedr_flags::encoder_of(octets::u8_at(bytes, 620 + k));
+        k = k + 1;
+    }
+    encoders
+}
+
+fn read_all_failures(bytes: &[u8]) -> [ShotFailures; 20]
+    ensures { λ r. ⌜ r ≡ allFailuresOf (now (bytes .entry)) ⌝ }
+{
+    let mut failures = [ShotFailures {
+        power: false,
+        energy: false,
+        range: false,
+        window: false,
+        comparison: false,
+    }; 20];
+    let mut k = 0;
+    while k < 20 {
+        failures[k] = pedr_flags::read_failures(bytes, k + 1);
+        k = k + 1;
+    }
+    failures
+}
+
+fn read_shot_arrays(bytes: &[u8]) -> ShotArrays
+    ensures { λ r. ⌜ r ≡ shotArraysOf (now (bytes .entry)) ⌝ }
+{
+    ShotArrays {
+        radius: read_u32x20(bytes, 48),
+        energy: read_u16x20(bytes, 144),
+        reflectivity: read_u16x20(bytes, 184),
+        trigger_channel: read_u8x20(bytes, 224),
+        pulse_width: read_u16x20(bytes, 244),
+        optical_width: read_u16x20(bytes, 284),
+        laser_power: read_u16x20(bytes, 344),
+        class: read_classes(bytes),
+        encoder: read_encoders(bytes),
+        failures: read_all_failures(bytes),
+    }
+}
+
+fn read_channel_arrays(bytes: &[u8]) -> ChannelArrays
+    ensures { λ r. ⌜ r ≡ channelArraysOf (now (bytes .entry)) ⌝ }
+{
+    let mut noise = [0u32; 8];
+    octets::read_u32s(bytes, 424, &mut noise);
+    let mut thresholds = [0u16; 8];
+    octets::read_u16s(bytes, 464, &mut thresholds);
+    ChannelArrays { noise, thresholds }
+}
+
+fn read_xyz(bytes: &[u8]) -> [i32; 3]
+    ensures { λ r. ⌜ r ≡ intsAt (now (bytes .entry)) 324 4 3 ⌝ }
+{
+    let x = octets::i32_at(bytes, 324);
+    let y = octets::i32_at(bytes, 328);
+    let z = octets::i32_at(bytes, 332);
+    [x, y, z]
+}
+
+fn read_source_header(bytes: &[u8]) -> [u32; 2]
+    ensures { λ r. ⌜ r ≡ natsAt (now (bytes .entry)) 492 4 2 ⌝ }
+{
+    let mut header = [0u32; 2];
+    octets::read_u32s(bytes, 492, &mut header);
+    header
+}
+
+// Reads the arrays of any bytes, also of those that are refused as a record; a byte past the end reads as 0.
+pub fn read_arrays(bytes: &[u8]) -> RecordArrays
+    ensures { λ r. ⌜ r ≡ arraysOf (now (bytes .entry)) ⌝ }
+{
+    RecordArrays {
+        shots: read_shot_arrays(bytes),
+        channels: read_channel_arrays(bytes),
+        xyz: read_xyz(bytes),
+        source_header: read_source_header(bytes),
+    }
+}
+
+// The arrays of a refusal: all zeros.
+pub fn no_arrays() -> RecordArrays
+    ensures { λ r. ⌜ r ≡ noArrays ⌝ }
+{
+    let shots = ShotArrays {
+        radius: [0; 20],
+        energy: [0; 20],
+        reflectivity: [0; 20],
+        trigger_channel: [0; 20],
+        pulse_width: [0; 20],
+        optical_width: [0; 20],
+        laser_power: [0; 20],
+        class: [ShotClass {
+            class: Class::NoTrigger,
+        }; 20],
+        encoder: [Encoder {
+            start: 0,
+            carried_low: 0,
+            stop: 0,
+            carried_high: 0,
+        }; 20],
+        failures: [ShotFailures {
+            power: false,
+            energy: false,
+            range: false,
+            window: false,
+            comparison: false,
+        }; 20],
+    };
+    let channels = ChannelArrays {
+        noise: [0; 8],
+        thresholds: [0; 8],
+    };
+    RecordArrays {
+        shots,
+        channels,
+        xyz: [0; 3],
+        source_header: [0; 2],
+    }
+}

@@ -1,0 +1,28 @@
+-- Field by field, each from its own read.
+use mir.Syntax.{w16, w32}
+use Rattle.numbers.proofs.Ranges.{held}
+use Rattle.pedr_fields.specs.Fields.{linkOf}
+use borrow.Author.Needs.{needs}
+use Rattle.pedr_fields.proofs.read_link.Statement.{statement}
+use Rattle.pedr_fields.proofs.read_link.Tie as tie
+
+i32-at-requires : tie.Need-i32-at-requires
+i32-at-requires c κs = search needs
+
+i16-at-requires : tie.Need-i16-at-requires
+i16-at-requires c κs = search needs
+
+u16-at-requires : tie.Need-u16-at-requires
+u16-at-requires c κs = search needs
+
+returns : tie.Need-returns
+unfolding linkOf
+returns c =
+    λ i. record {
+      seconds = held w32 (c .before .before .i32-at .ok) (c .before .before .i32-at .ensures) i;
+      millis = held w16 (c .before .i16-at .ok) (c .before .i16-at .ensures) i;
+      «fine_time» = c .u16-at .ensures i;
+    }
+
+pub read-link-spec : {M : Type 1} → statement M
+read-link-spec = tie.close (tie.spec i32-at-requires i16-at-requires u16-at-requires returns)

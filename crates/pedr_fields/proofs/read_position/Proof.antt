@@ -1,0 +1,49 @@
+-- Field by field, each from its own read.
+use mir.Syntax.{w32}
+use Rattle.numbers.proofs.Ranges.{held}
+use Rattle.pedr_fields.specs.Fields.{positionOf}
+use borrow.Author.Needs.{needs}
+use Rattle.pedr_fields.proofs.read_position.Statement.{statement}
+use Rattle.pedr_fields.proofs.read_position.Tie as tie
+
+u32-at-requires : tie.Need-u32-at-requires
+u32-at-requires c κs = search needs
+
+i32-at-requires : tie.Need-i32-at-requires
+i32-at-requires c κs = search needs
+
+i32-at-requires-2 : tie.Need-i32-at-requires-2
+i32-at-requires-2 c κs = search needs
+
+u32-at-requires-2 : tie.Need-u32-at-requires-2
+u32-at-requires-2 c κs = search needs
+
+i32-at-requires-3 : tie.Need-i32-at-requires-3
+i32-at-requires-3 c κs = search needs
+
+i32-at-requires-4 : tie.Need-i32-at-requires-4
+i32-at-requires-4 c κs = search needs
+
+returns : tie.Need-returns
+unfolding positionOf
+returns c =
+    λ i. record {
+      orbit = c .before .before .before .before .before .u32-at .ensures i;
+      latitude = held w32 (c .before .before .before .before .i32-at .ok) (c .before .before .before .before .i32-at .ensures) i;
+      longitude = held w32 (c .before .before .before .i32-at2 .ok) (c .before .before .before .i32-at2 .ensures) i;
+      «radial_distance» = c .before .before .u32-at2 .ensures i;
+      «ground_latitude» = held w32 (c .before .i32-at3 .ok) (c .before .i32-at3 .ensures) i;
+      «ground_longitude» = held w32 (c .i32-at4 .ok) (c .i32-at4 .ensures) i;
+    }
+
+pub read-position-spec : {M : Type 1} → statement M
+read-position-spec =
+    tie.close
+    (tie.spec
+    u32-at-requires
+    i32-at-requires
+    i32-at-requires-2
+    u32-at-requires-2
+    i32-at-requires-3
+    i32-at-requires-4
+    returns)
