@@ -10,8 +10,8 @@ use lib.Seq.{take-all}
 use Rattle.octets.specs.Bytes.{part}
 use Rattle.octets.specs.Refusal.{refuse_unless_else_, _then_}
 use Rattle.octets.proofs.Ladder.{fail-eq}
-use Rattle.packet.specs.Header.{headerRefusal}
-use Rattle.packet.specs.Read.{readRefusal}
+use Rattle.packet_check.specs.Header.{headerRefusal}
+use Rattle.packet_check.specs.Refusal.{readRefusal}
 use Rattle.aedr.specs.Printed.{piece, answerOf}
 
 -- a short piece is refused by its packet's length

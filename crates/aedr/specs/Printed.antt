@@ -4,7 +4,7 @@ use Prim.Native.Nat.{ℕ, zero, suc, _+_, _*_, _/_}
 use mathlib.Core.List.{List, [], _∷_, _++_}
 use lib.ListN.{length, drop}
 use Rattle.octets.specs.Bytes.{part}
-use Rattle.packet.specs.Read.{readRefusal}
+use Rattle.packet_check.specs.Refusal.{readRefusal}
 use Rattle.aedr.specs.Decimal.{decimal}
 
 -- how many pieces the input has

@@ -8,7 +8,8 @@ use reorder_numbers::Count;
 use reorder_session::Session;
 ghost use mathlib.Core.Path.{_≡_};
 ghost use Rattle.checksum.specs.Sum.{packetSum};
-ghost use Rattle.packet.specs.Read.{readRefusal, readSaid};
+ghost use Rattle.packet_check.specs.Refusal.{readRefusal};
+ghost use Rattle.packet.specs.Read.{readSaid};
 ghost use Rattle.packet_writer.specs.Write.{writeRefusal, writeBytes};
 ghost use Rattle.pedr_check.specs.Refusal.{recordRefusal};
 ghost use Rattle.reorder_numbers.specs.Numbers.{Opens, Offers, Serves, Drains, Passes};
@@ -27,7 +28,7 @@ pub struct PacketNumbers {
 pub extern "C" fn mola_check_packet(packet: &[u8], sum_word: usize) -> u8
     ensures { λ r. ⌜ r ≡ readRefusal (now (packet .entry)) «sum_word» ⌝ }
 {
-    packet::packet_refusal(packet, sum_word)
+    packet_check::packet_refusal(packet, sum_word)
 }
 
 // Fields of all zeros.

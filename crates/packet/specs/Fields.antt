@@ -4,9 +4,9 @@ use mathlib.Core.List.{List}
 use lib.ListN.{replicate}
 use Rattle.octets.specs.Bytes.{part}
 use Rattle.layout.specs.Column.{value, octetsIn}
-use Rattle.packet.specs.Layout as columns
-use Rattle.packet.specs.Header.{errorStatus, count}
-use Rattle.packet.specs.Bins.{binsOf}
+use Rattle.packet_bins.specs.Bins.{binsOf}
+use Rattle.packet_check.specs.Layout as columns
+use Rattle.packet_check.specs.Header.{errorStatus, count}
 use Rattle.packet.specs.declared.PacketFields.{PacketFields}
 use Rattle.packet.specs.declared.PacketArrays.{PacketArrays}
 

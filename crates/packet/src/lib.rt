@@ -1,14 +1,8 @@
 // The 1,080-byte science packet: its fields and the reader.
-pub mod bins;
-
 ghost use mathlib.Core.Path.{_≡_};
 ghost use Rattle.octets.specs.Refusal.{numberSaid};
-ghost use Rattle.packet.specs.Header.{headerRefusal};
 ghost use Rattle.packet.specs.Fields.{fieldsOf, arraysOf, carriedOf};
-ghost use Rattle.packet.specs.Read.{readRefusal, said, readSaid, readArrays};
-
-// The published place of the science packet's sum, a word number (docs/LAYOUTS.md has the working).
-pub const PUBLISHED_SUM_WORD: usize = 70;
+ghost use Rattle.packet.specs.Read.{said, readSaid, readArrays};
 
 // The free fields that are single numbers, laid out as C does.
 #[repr(C)]
@@ -49,58 +43,6 @@ pub struct PacketRead {
     pub arrays: PacketArrays,
 }
 
-// Refusals 3 to 8, or 0.
-fn header_refusal(bytes: &[u8]) -> u8
-    ensures { λ r. ⌜ r ≡ headerRefusal (now (bytes .entry)) ⌝ }
-{
-    let id = octets::u16_at(bytes, 0);
-    if (id >> 13) % 8 != 0 {
-        return 3;
-    }
-    if (id >> 12) % 2 != 0 {
-        return 4;
-    }
-    if (id >> 11) % 2 != 0 {
-        return 5;
-    }
-    if id % 256 != 35 {
-        return 6;
-    }
-    if (octets::u16_at(bytes, 2) >> 14) % 4 != 3 {
-        return 7;
-    }
-    if octets::u16_at(bytes, 4) != 1073 {
-        return 8;
-    }
-    0
-}
-
-// Refusals 1 to 10, or 0: the check of a packet without its fields. Any bytes, any word.
-pub fn packet_refusal(bytes: &[u8], sum_word: usize) -> u8
-    ensures { λ r. ⌜ r ≡ readRefusal (now (bytes .entry)) «sum_word» ⌝ }
-{
-    if bytes.len() != 1080 {
-        return 1;
-    }
-    if sum_word < 53 {
-        return 2;
-    }
-    if 539 < sum_word {
-        return 2;
-    }
-    let header = header_refusal(bytes);
-    if header != 0 {
-        return header;
-    }
-    if octets::u8_at(bytes, 11) != 0 {
-        return 9;
-    }
-    if checksum::packet_sum(bytes, sum_word) != octets::u16_at(bytes, sum_word * 2) {
-        return 10;
-    }
-    0
-}
-
 fn read_fields(bytes: &[u8]) -> PacketFields
     ensures { λ r. ⌜ r ≡ fieldsOf (now (bytes .entry)) ⌝ }
 {
@@ -133,7 +75,7 @@ fn read_arrays(bytes: &[u8]) -> PacketArrays
     PacketArrays {
         temperatures,
         readings,
-        bins: bins::read_bins(bytes),
+        bins: packet_bins::read_bins(bytes),
     }
 }
 
@@ -141,7 +83,7 @@ fn read_arrays(bytes: &[u8]) -> PacketArrays
 pub fn read_answer(bytes: &[u8], sum_word: usize) -> PacketAnswer
     ensures { λ r. ⌜ said r ≡ readSaid (now (bytes .entry)) «sum_word» ⌝ }
 {
-    let n = packet_refusal(bytes, sum_word);
+    let n = packet_check::packet_refusal(bytes, sum_word);
     if n != 0 {
         return PacketAnswer::Refused(n);
     }

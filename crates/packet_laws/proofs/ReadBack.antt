@@ -12,14 +12,14 @@ use Rattle.octets.proofs.Store.{put-length, put-over, put-there}
 use Rattle.layout.specs.Column.{value, cut}
 use Rattle.checksum.specs.Sum.{packetSum, wordAt, wordSum, zeroed}
 use Rattle.checksum.proofs.Sum.{sum-lt}
-use Rattle.packet.specs.Layout as columns
-use Rattle.packet.specs.Bins.{binByte, binsOf}
+use Rattle.packet_bins.specs.Bins.{binByte, binsOf}
+use Rattle.packet_bins.proofs.Swap.{bins-length, bins-at, bin-byte-range, bin-byte-twice}
+use Rattle.packet_check.specs.Layout as columns
+use Rattle.packet_check.specs.Refusal.{readRefusal}
+use Rattle.packet_check.proofs.Accept.{Accepted, accepts}
 use Rattle.packet.specs.Fields.{fieldsOf, arraysOf, noArrays}
-use Rattle.packet.specs.Read.{readRefusal}
 use Rattle.packet.specs.declared.PacketFields.{PacketFields}
 use Rattle.packet.specs.declared.PacketArrays.{PacketArrays}
-use Rattle.packet.proofs.Accept.{Accepted, accepts}
-use Rattle.packet.proofs.Swap.{bins-length, bins-at, bin-byte-range, bin-byte-twice}
 use Rattle.packet_writer.specs.Write.{idWord, sequenceWord, partsOf, unsummed, packetOf}
 use Rattle.packet_writer.proofs.Accept.{Writable, writable}
 use Rattle.packet_writer.proofs.Histogram.{histogram-at}

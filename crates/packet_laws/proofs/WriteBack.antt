@@ -16,14 +16,14 @@ use Rattle.octets.proofs.Store.{put-same}
 use Rattle.layout.specs.Column.{value, cut, join}
 use Rattle.layout.proofs.Cover.{join-cut}
 use Rattle.checksum.specs.Sum.{packetSum}
-use Rattle.packet.specs.Layout as columns
-use Rattle.packet.specs.Bins.{binByte, binsOf}
+use Rattle.packet_bins.specs.Bins.{binByte, binsOf}
+use Rattle.packet_bins.proofs.Swap.{bins-at, bin-byte-range, bin-byte-twice}
+use Rattle.packet_check.specs.Layout as columns
+use Rattle.packet_check.specs.Refusal.{readRefusal}
+use Rattle.packet_check.proofs.Accept.{Accepted, accepted}
 use Rattle.packet.specs.Fields.{fieldsOf, arraysOf, carriedOf}
-use Rattle.packet.specs.Read.{readRefusal}
 use Rattle.packet.specs.declared.PacketFields.{PacketFields}
 use Rattle.packet.specs.declared.PacketArrays.{PacketArrays}
-use Rattle.packet.proofs.Accept.{Accepted, accepted}
-use Rattle.packet.proofs.Swap.{bins-at, bin-byte-range, bin-byte-twice}
 use Rattle.packet_writer.specs.Write.{idWord, sequenceWord, histogramOf, partsOf, unsummed, packetOf, writeRefusal}
 use Rattle.packet_writer.proofs.Histogram.{histogram-length, histogram-at}
 use Rattle.packet_laws.specs.RoundTrip.{WritesBack, copyRefusal}

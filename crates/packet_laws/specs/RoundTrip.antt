@@ -9,9 +9,10 @@ use Rattle.octets.specs.Bytes.{octetsOf, put, Octets}
 use Rattle.octets.specs.Refusal.{refuse_unless_else_, _then_, Said, answered, say, after}
 use Rattle.layout.specs.Column.{Covers}
 use Rattle.checksum.specs.Sum.{packetSum}
-use Rattle.packet.specs.Layout.{packetColumns}
+use Rattle.packet_check.specs.Layout.{packetColumns}
+use Rattle.packet_check.specs.Refusal.{readRefusal}
 use Rattle.packet.specs.Fields.{fieldsOf, arraysOf, carriedOf, noArrays}
-use Rattle.packet.specs.Read.{readRefusal, readSaid, readArrays}
+use Rattle.packet.specs.Read.{readSaid, readArrays}
 use Rattle.packet.specs.declared.PacketFields.{PacketFields}
 use Rattle.packet.specs.declared.PacketArrays.{PacketArrays}
 use Rattle.packet_writer.specs.Write.{packetOf, writeRefusal}

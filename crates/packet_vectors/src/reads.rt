@@ -124,10 +124,10 @@ pub(crate) fn read_at_three_words(i: usize, row: u64) {
 
 // The first bin of an HSTART, and where bins 0, 1 and 47 start.
 pub(crate) fn hstart(h: u16) {
-    let starts = packet::bins::bin_starts(h);
+    let starts = packet_bins::bin_starts(h);
     show::text(b"hstart");
     show::entry_16(h);
-    show::entry_16(packet::bins::first_bin(h));
+    show::entry_16(packet_bins::first_bin(h));
     show::entry_32(starts[0]);
     show::entry_32(starts[1]);
     show::entry_32(starts[47]);

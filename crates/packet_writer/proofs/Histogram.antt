@@ -4,7 +4,7 @@ use mathlib.Core.Path.{_≡_}
 use mathlib.Core.List.{List}
 use lib.ListN.{length, getD}
 use Rattle.octets.proofs.Fill.{table-length, table-at}
-use Rattle.packet.specs.Bins.{binByte}
+use Rattle.packet_bins.specs.Bins.{binByte}
 use Rattle.packet_writer.specs.Write.{histogramOf}
 
 pub histogram-length : (bins : List ℕ) → length (histogramOf bins) ≡ 48

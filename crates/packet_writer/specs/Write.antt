@@ -9,7 +9,7 @@ use Rattle.octets.specs.Refusal.{refuse_unless_else_, within, Said, refused, an
 use Rattle.octets.specs.Table.{table}
 use Rattle.layout.specs.Column.{join}
 use Rattle.checksum.specs.Sum.{packetSum}
-use Rattle.packet.specs.Bins.{binByte}
+use Rattle.packet_bins.specs.Bins.{binByte}
 use Rattle.packet.specs.declared.PacketFields.{PacketFields}
 use Rattle.packet.specs.declared.PacketArrays.{PacketArrays}
 use Rattle.packet_writer.specs.declared.PacketWritten.{PacketWritten}

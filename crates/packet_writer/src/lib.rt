@@ -6,7 +6,7 @@ ghost use Prim.Native.Nat.{_-_, _≤_, _<_};
 ghost use lib.ListN.{length};
 ghost use Rattle.octets.specs.Bytes.{octetsOf};
 ghost use Rattle.layout.specs.Column.{join};
-ghost use Rattle.packet.specs.Bins.{binByte};
+ghost use Rattle.packet_bins.specs.Bins.{binByte};
 ghost use Rattle.packet_writer.specs.Write.{headParts, statusParts, histogramOf, unsummed, writeRefusal, saidWritten, writeSaid, writeBytes};
 
 // A refusal with its number, or the packet is in the output.

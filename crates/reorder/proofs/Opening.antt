@@ -5,7 +5,7 @@ use mathlib.Core.List.{List}
 use borrow.Author.Tests.{eqb-true}
 use Rattle.octets.specs.Refusal.{answered}
 use Rattle.octets.proofs.Ladder.{passed, answer-said, within-true}
-use Rattle.packet.specs.Read.{readRefusal}
+use Rattle.packet_check.specs.Refusal.{readRefusal}
 use Rattle.reorder.specs.Offer.{openRefusal, openSaid}
 
 pub record Opened (size : ℕ) (b : List ℕ) (h w p : ℕ) : Type 0 where

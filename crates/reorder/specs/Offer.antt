@@ -5,9 +5,9 @@ use lib.Dec.{eqb}
 use lib.ListN.{length}
 use Rattle.octets.specs.Bytes.{put}
 use Rattle.octets.specs.Refusal.{refuse_unless_else_, within, Said, say}
+use Rattle.packet_check.specs.Refusal.{readRefusal}
 use Rattle.packet.specs.declared.PacketFields.{PacketFields}
 use Rattle.packet.specs.Fields.{fieldsOf}
-use Rattle.packet.specs.Read.{readRefusal}
 use Rattle.window.specs.declared.Window.{Window}
 use Rattle.window.specs.Window.{holding}
 use Rattle.reorder_session.specs.declared.Session.{Session}

@@ -22,7 +22,7 @@ use native.Mathlib.Omega.{arith}
 use lib.ListN.{length}
 use Rattle.octets.specs.Bytes.{put}
 use Rattle.octets.proofs.Store.{put-length}
-use Rattle.packet.proofs.Accept.{accepted}
+use Rattle.packet_check.proofs.Accept.{accepted}
 use Rattle.window.specs.Window.{heldAt, holding}
 use Rattle.window.proofs.Held.{held-least, freed-held, skipped-held, holding-same, holding-other}
 use Rattle.reorder_session.specs.declared.Session.{Session}

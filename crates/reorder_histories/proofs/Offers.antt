@@ -13,8 +13,8 @@ use Rattle.numbers.proofs.Integers.{ints}
 use Rattle.octets.specs.Bytes.{put}
 use Rattle.octets.specs.Refusal.{Said, refused, answered}
 use Rattle.octets.proofs.Ladder.{pass, pass-eq}
+use Rattle.packet_check.specs.Refusal.{readRefusal}
 use Rattle.packet.specs.Fields.{fieldsOf}
-use Rattle.packet.specs.Read.{readRefusal}
 use Rattle.position.specs.declared.Anchor.{Anchor}
 use Rattle.position.specs.Position.{position, publishedTolerance}
 use Rattle.window.specs.declared.Window.{Window}

@@ -10,7 +10,7 @@ use lib.ListN.{length}
 use Rattle.octets.specs.Bytes.{put}
 use Rattle.octets.specs.Refusal.{Said, refused, answered, say}
 use Rattle.octets.proofs.Ladder.{answer-said}
-use Rattle.packet.proofs.Accept.{accepted}
+use Rattle.packet_check.proofs.Accept.{accepted}
 use Rattle.window.specs.Window.{heldAt, holding, freed, skipped}
 use Rattle.window.proofs.Held.{held-least, held-most, freed-held, skipped-held, holding-same, holding-other}
 use Rattle.reorder_session.specs.declared.Session.{Session}

@@ -10,8 +10,8 @@ use lib.ListN.{length}
 use Rattle.octets.specs.Refusal.{answered, say}
 use Rattle.octets.proofs.Ladder.{answer-said}
 use Rattle.octets.proofs.Store.{put-length}
+use Rattle.packet_check.proofs.Accept.{accepted}
 use Rattle.packet.specs.Fields.{fieldsOf}
-use Rattle.packet.proofs.Accept.{accepted}
 use Rattle.window.specs.declared.Window.{Window}
 use Rattle.window.specs.Window.{heldAt, holding, freed, skipped}
 use Rattle.window.proofs.Held.{held-least, held-most, freed-held, skipped-held, holding-other}

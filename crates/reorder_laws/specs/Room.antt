@@ -5,8 +5,8 @@ use mathlib.Core.List.{List}
 use lib.IntN.{pos}
 use lib.ListN.{length}
 use Rattle.octets.specs.Refusal.{answered}
+use Rattle.packet_check.specs.Refusal.{readRefusal}
 use Rattle.packet.specs.Fields.{fieldsOf}
-use Rattle.packet.specs.Read.{readRefusal}
 use Rattle.reorder_session.specs.declared.Session.{Session}
 use Rattle.reorder_session.specs.Session.{slotStart}
 use Rattle.reorder_place.specs.Place.{positionOf}

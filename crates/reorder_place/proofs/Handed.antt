@@ -4,8 +4,9 @@ use mathlib.Core.Path.{_≡_, sym, _∙_}
 use mathlib.Core.List.{List}
 use Rattle.octets.specs.Refusal.{refused}
 use Rattle.octets.proofs.Ladder.{refusal-said}
+use Rattle.packet_check.specs.Refusal.{readRefusal}
 use Rattle.packet.specs.Fields.{fieldsOf}
-use Rattle.packet.specs.Read.{readRefusal, readSaid}
+use Rattle.packet.specs.Read.{readSaid}
 
 -- its number is the ladder's, and not 0
 pub handed-on : (b : List ℕ) (w k r : ℕ) → refused k ≡ readSaid b w → r ≡ k → (r ≡ readRefusal b w) × (r ≡ 0 → ⊥)

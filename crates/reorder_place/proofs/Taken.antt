@@ -10,8 +10,8 @@ use lib.Signed.{leZ}
 use Rattle.numbers.proofs.Integers.{ints}
 use Rattle.octets.specs.Refusal.{Said, refused, answered}
 use Rattle.octets.proofs.Ladder.{passed, answer-said}
+use Rattle.packet_check.specs.Refusal.{readRefusal}
 use Rattle.packet.specs.Fields.{fieldsOf}
-use Rattle.packet.specs.Read.{readRefusal}
 use Rattle.window.specs.declared.Window.{Window}
 use Rattle.window.specs.Window.{heldAt}
 use Rattle.reorder_session.specs.declared.Session.{Session}

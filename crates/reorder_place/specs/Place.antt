@@ -6,9 +6,9 @@ use lib.Dec.{eqb}
 use lib.IntN.{ℤ, pos, natAbs}
 use lib.Signed.{leZ}
 use Rattle.octets.specs.Refusal.{refuse_unless_else_, Said, refused, answered, say}
+use Rattle.packet_check.specs.Refusal.{readRefusal}
 use Rattle.packet.specs.declared.PacketFields.{PacketFields}
 use Rattle.packet.specs.Fields.{fieldsOf}
-use Rattle.packet.specs.Read.{readRefusal}
 use Rattle.position.specs.Position.{position, publishedTolerance}
 use Rattle.window.specs.declared.Window.{Window}
 use Rattle.window.specs.Window.{heldAt}

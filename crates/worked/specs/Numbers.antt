@@ -10,9 +10,9 @@ use Rattle.octets.specs.Refusal.{refused, answered}
 use Rattle.octets.specs.Table.{table}
 use Rattle.layout.specs.Column.{Column}
 use Rattle.checksum.specs.Sum.{wordAt}
-use Rattle.packet.specs.Bins.{binByte, firstBin}
+use Rattle.packet_bins.specs.Bins.{binByte, firstBin}
+use Rattle.packet_check.specs.Refusal.{readRefusal}
 use Rattle.packet.specs.Fields.{noArrays}
-use Rattle.packet.specs.Read.{readRefusal}
 use Rattle.packet.specs.declared.PacketFields.{PacketFields}
 use Rattle.packet_writer.specs.Write.{packetOf}
 use Rattle.pedr_layout.specs.Layout.{_u1, timeWhole, timeMicros, qualityNumber, qualityCounter, frameIndex}

@@ -4,8 +4,9 @@ use mathlib.Core.Path.{_≡_, sym, ap, _∙_}
 use mathlib.Core.List.{List}
 use Rattle.octets.specs.Refusal.{refused, answered}
 use Rattle.octets.proofs.Ladder.{answer-said, refusal-said, after-refused, after-done}
+use Rattle.packet_check.specs.Refusal.{readRefusal}
 use Rattle.packet.specs.Fields.{fieldsOf, arraysOf, noArrays}
-use Rattle.packet.specs.Read.{readRefusal, said, readSaid, readArrays}
+use Rattle.packet.specs.Read.{said, readSaid, readArrays}
 use Rattle.packet.specs.declared.PacketFields.{PacketFields}
 use Rattle.packet.specs.declared.PacketArrays.{PacketArrays}
 use borrow.Author.Needs.{needs}

@@ -1,6 +1,6 @@
 -- The table tiles the packet.
 use Rattle.layout.proofs.Cover.{covers}
-use Rattle.packet.specs.Layout.{packetColumns}
+use Rattle.packet_check.specs.Layout.{packetColumns}
 use Rattle.packet_laws.proofs.Columns.{packet-tiles}
 use Rattle.packet_laws.proofs.layout_covers.Statement.{statement}
 use Rattle.packet_laws.proofs.layout_covers.Tie as tie

@@ -4,7 +4,7 @@ use mathlib.Core.Path.{refl, ap}
 use native.Mathlib.Omega.{arith}
 use lib.ListN.{getD}
 use Rattle.octets.proofs.Fill.{Filled, fill-more, fill-done}
-use Rattle.packet.specs.Bins.{binByte}
+use Rattle.packet_bins.specs.Bins.{binByte}
 use Rattle.packet_writer.specs.Write.{histogramOf}
 use Rattle.packet_writer.proofs.histogram_bytes.Statement.{statement}
 use Rattle.packet_writer.proofs.histogram_bytes.Tie as tie

@@ -3,7 +3,7 @@ use mathlib.Core.Path.{sym, ap, _∙_}
 use Rattle.reorder_session.specs.Session.{withWindow}
 use Rattle.reorder_place.specs.Place.{said}
 use Rattle.reorder.specs.Offer.{offerOf}
-use Rattle.packet.proofs.Accept.{accepted}
+use Rattle.packet_check.proofs.Accept.{accepted}
 use Rattle.reorder_place.proofs.Taken.{taken-offer}
 use Rattle.reorder_session.proofs.Said.{stays, leaves}
 use borrow.Author.Needs.{needs}

@@ -6,11 +6,12 @@ use denote.Ref.{now}
 use lib.ListN.{length}
 use Rattle.octets.specs.Refusal.{numberSaid}
 use Rattle.octets.proofs.Ladder.{pass-eq, fail-eq, pass-within, fail-below, fail-above, say-refused, say-answered, answer-said}
+use Rattle.packet_check.specs.Refusal.{readRefusal}
+use Rattle.packet_check.proofs.Accept.{accepted}
 use Rattle.packet.specs.declared.PacketAnswer.{PacketAnswer}
 use Rattle.packet.specs.declared.PacketFields.{PacketFields}
 use Rattle.packet.specs.Fields.{fieldsOf}
-use Rattle.packet.specs.Read.{readRefusal, said}
-use Rattle.packet.proofs.Accept.{accepted}
+use Rattle.packet.specs.Read.{said}
 use Rattle.reorder.specs.Offer.{opened, openRefusal, openSaid, openOf}
 use Rattle.reorder_session.proofs.Said.{stays, leaves}
 use Rattle.reorder_place.proofs.Handed.{handed-on}

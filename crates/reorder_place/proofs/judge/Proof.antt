@@ -6,9 +6,10 @@ use native.Mathlib.Omega.{arith}
 use denote.Ref.{now}
 use Rattle.octets.specs.Refusal.{numberSaid}
 use Rattle.octets.proofs.Ladder.{pass, fail, pass-eq, fail-eq, answer-said}
+use Rattle.packet_check.specs.Refusal.{readRefusal}
 use Rattle.packet.specs.declared.PacketAnswer.{PacketAnswer}
 use Rattle.packet.specs.Fields.{fieldsOf}
-use Rattle.packet.specs.Read.{readRefusal, said}
+use Rattle.packet.specs.Read.{said}
 use Rattle.reorder_session.specs.Session.{broken}
 use Rattle.reorder_place.specs.Place.{placed, positionOf, offerRefusal, offerSaid}
 use Rattle.reorder_session.proofs.Said.{refusing-now, refusing-next}

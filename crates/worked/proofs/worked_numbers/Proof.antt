@@ -3,10 +3,10 @@ use mathlib.Core.Path.{refl}
 use Rattle.octets.specs.Bytes.{put}
 use Rattle.octets.specs.Refusal.{refuse_unless_else_, _then_, say}
 use Rattle.checksum.specs.Sum.{wordSum, zeroed, packetSum}
-use Rattle.packet.specs.Bins.{firstBin}
+use Rattle.packet_bins.specs.Bins.{firstBin}
+use Rattle.packet_check.specs.Header.{headerRefusal}
+use Rattle.packet_check.specs.Refusal.{readRefusal}
 use Rattle.packet.specs.Fields.{fieldsOf}
-use Rattle.packet.specs.Header.{headerRefusal}
-use Rattle.packet.specs.Read.{readRefusal}
 use Rattle.packet_writer.specs.Write.{histogramOf, unsummed, packetOf}
 use Rattle.numbers.specs.Bit.{bitsSet}
 use Rattle.pedr_flags.specs.Quality.{qualityOf}

@@ -8,9 +8,9 @@ use lib.ListN.{length, length-replicate}
 use Rattle.octets.specs.Bytes.{put}
 use Rattle.octets.specs.Refusal.{refuse_unless_else_, _then_, refused, answered, say}
 use Rattle.checksum.specs.Sum.{wordSum, zeroed, packetSum}
+use Rattle.packet_check.specs.Header.{headerRefusal}
+use Rattle.packet_check.specs.Refusal.{readRefusal}
 use Rattle.packet.specs.Fields.{fieldsOf}
-use Rattle.packet.specs.Header.{headerRefusal}
-use Rattle.packet.specs.Read.{readRefusal}
 use Rattle.packet_writer.specs.Write.{histogramOf, unsummed, packetOf}
 use Rattle.position.specs.Position.{position}
 use Rattle.window.specs.Window.{heldAt, someAmong, someHeld}

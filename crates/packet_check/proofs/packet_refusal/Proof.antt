@@ -1,10 +1,10 @@
 -- Each return is one rung of the ladder.
 use mathlib.Core.Path.{sym, _∙_}
 use Rattle.octets.proofs.Ladder.{rungs}
-use Rattle.packet.specs.Read.{readRefusal}
+use Rattle.packet_check.specs.Refusal.{readRefusal}
 use borrow.Author.Needs.{needs}
-use Rattle.packet.proofs.packet_refusal.Statement.{statement}
-use Rattle.packet.proofs.packet_refusal.Tie as tie
+use Rattle.packet_check.proofs.packet_refusal.Statement.{statement}
+use Rattle.packet_check.proofs.packet_refusal.Tie as tie
 
 returns : tie.Need-returns
 unfolding readRefusal

@@ -5,9 +5,9 @@ use denote.Ref.{now}
 use native.Mathlib.Omega.{arith}
 use lib.ListN.{getD}
 use Rattle.octets.proofs.Fill.{Filled, fill-more, fill-done}
-use Rattle.packet.specs.Bins.{binByte, binsOf}
-use Rattle.packet.proofs.bins.read_bins.Statement.{statement}
-use Rattle.packet.proofs.bins.read_bins.Tie as tie
+use Rattle.packet_bins.specs.Bins.{binByte, binsOf}
+use Rattle.packet_bins.proofs.read_bins.Statement.{statement}
+use Rattle.packet_bins.proofs.read_bins.Tie as tie
 
 abbrev Inv-loop : tie.InvT-loop
 Inv-loop bytes bins₀ j₀ bins j = Filled (λ j. getD bytes (binByte j) 0) bins₀ bins j

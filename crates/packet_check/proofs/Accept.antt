@@ -7,9 +7,9 @@ use borrow.Author.Tests.{eqb-true}
 use Rattle.octets.proofs.Ladder.{passed, pass-eq, pass-within, then-pass, then-zero, within-true}
 use Rattle.layout.specs.Column.{value}
 use Rattle.checksum.specs.Sum.{packetSum, wordAt}
-use Rattle.packet.specs.Layout.{packetLength, packetType}
-use Rattle.packet.specs.Header.{version, spare, flag, instrument, segmentation, headerRefusal}
-use Rattle.packet.specs.Read.{readRefusal}
+use Rattle.packet_check.specs.Layout.{packetLength, packetType}
+use Rattle.packet_check.specs.Header.{version, spare, flag, instrument, segmentation, headerRefusal}
+use Rattle.packet_check.specs.Refusal.{readRefusal}
 
 pub record Accepted (bs : List ℕ) (w : ℕ) : Type 0 where
   pub size : length bs ≡ 1080

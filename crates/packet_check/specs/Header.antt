@@ -6,7 +6,7 @@ use lib.Dec.{eqb}
 use Rattle.octets.specs.Bytes.{bitsAt}
 use Rattle.octets.specs.Refusal.{refuse_unless_else_}
 use Rattle.layout.specs.Column.{value}
-use Rattle.packet.specs.Layout.{packetId, sequenceControl, packetLength}
+use Rattle.packet_check.specs.Layout.{packetId, sequenceControl, packetLength}
 
 abbrev pub version : List ℕ → ℕ
 version bs = bitsAt (value bs packetId) 13 3

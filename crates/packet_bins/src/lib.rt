@@ -1,7 +1,7 @@
-// The histogram: its 48 bins, and where they start.
+// The histogram of the science packet: its 48 bins, and where they start.
 ghost use mathlib.Core.Path.{_≡_};
 ghost use Prim.Native.Nat.{_<_};
-ghost use Rattle.packet.specs.Bins.{binByte, binsOf, firstBin, binStarts};
+ghost use Rattle.packet_bins.specs.Bins.{binByte, binsOf, firstBin, binStarts};
 
 // The packet byte of bin j.
 fn bin_byte(j: usize) -> usize
@@ -11,8 +11,8 @@ fn bin_byte(j: usize) -> usize
     if j % 2 == 0 { 56 + j + 1 } else { 56 + j - 1 }
 }
 
-// The bins in bin order.
-pub(crate) fn read_bins(bytes: &[u8]) -> [u8; 48]
+// The bins of a packet, in bin order. Any bytes.
+pub fn read_bins(bytes: &[u8]) -> [u8; 48]
     ensures { λ r. ⌜ r ≡ binsOf (now (bytes .entry)) ⌝ }
 {
     let mut bins = [0u8; 48];

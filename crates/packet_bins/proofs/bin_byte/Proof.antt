@@ -1,8 +1,8 @@
 -- The two cases of the rule.
 use borrow.Author.Tests.{eq-eqb, ne-eqb}
 use borrow.Author.Needs.{needs}
-use Rattle.packet.proofs.bins.bin_byte.Statement.{statement}
-use Rattle.packet.proofs.bins.bin_byte.Tie as tie
+use Rattle.packet_bins.proofs.bin_byte.Statement.{statement}
+use Rattle.packet_bins.proofs.bin_byte.Tie as tie
 
 add-result : tie.Need-add-result
 add-result c = search needs

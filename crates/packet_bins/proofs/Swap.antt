@@ -7,7 +7,7 @@ use native.Mathlib.Omega.{arith}
 use borrow.Author.Tests.{eq-eqb, ne-eqb}
 use lib.ListN.{length, getD}
 use Rattle.octets.proofs.Fill.{table-length, table-at}
-use Rattle.packet.specs.Bins.{binByte, binsOf}
+use Rattle.packet_bins.specs.Bins.{binByte, binsOf}
 
 pub bins-length : (bs : List ℕ) → length (binsOf bs) ≡ 48
 unfolding binsOf

@@ -1,9 +1,9 @@
 -- Each return is one rung of the ladder, with the words read in place of those of the bytes.
 use Rattle.octets.proofs.Ladder.{rungs}
-use Rattle.packet.specs.Header.{headerRefusal}
+use Rattle.packet_check.specs.Header.{headerRefusal}
 use borrow.Author.Needs.{needs}
-use Rattle.packet.proofs.header_refusal.Statement.{statement}
-use Rattle.packet.proofs.header_refusal.Tie as tie
+use Rattle.packet_check.proofs.header_refusal.Statement.{statement}
+use Rattle.packet_check.proofs.header_refusal.Tie as tie
 
 u16-at-requires : tie.Need-u16-at-requires
 u16-at-requires c κs = search needs

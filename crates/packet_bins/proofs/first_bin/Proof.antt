@@ -1,9 +1,9 @@
 -- The wrapped sum less its lowest bit.
 use native.Mathlib.Omega.{arith}
-use Rattle.packet.specs.Bins.{firstBin}
+use Rattle.packet_bins.specs.Bins.{firstBin}
 use borrow.Author.Needs.{needs}
-use Rattle.packet.proofs.bins.first_bin.Statement.{statement}
-use Rattle.packet.proofs.bins.first_bin.Tie as tie
+use Rattle.packet_bins.proofs.first_bin.Statement.{statement}
+use Rattle.packet_bins.proofs.first_bin.Tie as tie
 
 wrapping-add-u16-requires : tie.Need-wrapping-add-u16-requires
 wrapping-add-u16-requires c κs = search needs

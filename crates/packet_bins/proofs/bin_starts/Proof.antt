@@ -3,9 +3,9 @@ use Prim.Native.Nat.{ℕ, _+_, _-_, _*_, _<_}
 use mathlib.Core.Path.{_≡_, refl, ap}
 use native.Mathlib.Omega.{arith}
 use Rattle.octets.proofs.Fill.{Filled, fill-more, fill-done}
-use Rattle.packet.specs.Bins.{firstBin, binStart, binStarts}
-use Rattle.packet.proofs.bins.bin_starts.Statement.{statement}
-use Rattle.packet.proofs.bins.bin_starts.Tie as tie
+use Rattle.packet_bins.specs.Bins.{firstBin, binStart, binStarts}
+use Rattle.packet_bins.proofs.bin_starts.Statement.{statement}
+use Rattle.packet_bins.proofs.bin_starts.Tie as tie
 
 -- One law of loops that fill a list, at the starts; no start wraps.
 
