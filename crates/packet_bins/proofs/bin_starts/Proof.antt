@@ -7,8 +7,6 @@ use Rattle.packet_bins.specs.Bins.{firstBin, binStart, binStarts}
 use Rattle.packet_bins.proofs.bin_starts.Statement.{statement}
 use Rattle.packet_bins.proofs.bin_starts.Tie as tie
 
--- One law of loops that fill a list, at the starts; no start wraps.
-
 abbrev Inv-loop : tie.InvT-loop
 Inv-loop hstart first starts₀ j₀ starts j = (first ≡ firstBin hstart) × (first < 65536) × Filled (binStart hstart) starts₀ starts j
 
