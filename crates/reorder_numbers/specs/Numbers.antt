@@ -1,16 +1,16 @@
 -- The answers of the reorder buffer's calls as numbers, for callers in languages that have no such enums.
 use Prim.Native.Nat.{ℕ, _+_}
 use mathlib.Core.Path.{_≡_}
-use mathlib.Core.List.{List, [], _∷_}
+use mathlib.Core.List.{List, []}
 use Rattle.octets.specs.Bytes.{put}
 use Rattle.octets.specs.Refusal.{Said, refused, answered}
 use Rattle.reorder_session.specs.declared.Session.{Session}
 use Rattle.reorder_session.specs.Outcome.{Outcome}
 use Rattle.reorder.specs.Offer.{openOf, offerOf}
-use Rattle.reorder_turn.specs.declared.Description.{Description}
 use Rattle.reorder_turn.specs.Turn.{Turn, packet, missing, described, describedAll}
 use Rattle.reorder_serve.specs.Serve.{serveOf, drainOf, counted}
 use Rattle.reorder_pass.specs.Pass.{passOf}
+use Rattle.reorder_descriptions.specs.Listed.{listed}
 use Rattle.reorder_numbers.specs.declared.Answer.{Answer}
 use Rattle.reorder_numbers.specs.declared.Count.{Count}
 
@@ -33,11 +33,6 @@ passed = inNumbers missing
 abbrev pub drained : Said ℕ → Count
 drained (refused n) = record { refusal = n; count = 0 }
 drained (answered k) = record { refusal = 0; count = k }
-
--- descriptions as numbers: the kind and the position of each
-abbrev pub listed : List Description → List ℕ
-listed [] = []
-listed (d ∷ ds) = d .kind ∷ d .position ∷ listed ds
 
 -- the numbers in a lent buffer after a drain: as they were on a refusal; else the 32 descriptions from its start, as far as it goes
 abbrev pub tabled : Said (List Turn) → List ℕ → List ℕ

@@ -3,20 +3,13 @@ use reorder_pass::PassAnswer;
 use reorder_place::OfferAnswer;
 use reorder_serve::DrainAnswer;
 use reorder_session::Session;
-use reorder_turn::Description;
 use reorder_turn::ServeAnswer;
 ghost use mathlib.Core.Path.{_≡_};
-ghost use mathlib.Core.List.{[], _∷_};
-ghost use Prim.Native.Nat.{_≤_};
-ghost use lib.ListN.{length};
-ghost use Rattle.octets.specs.Bytes.{put};
 ghost use Rattle.reorder_place.specs.Place.{said};
 ghost use Rattle.reorder_turn.specs.Turn.{serveSaid};
 ghost use Rattle.reorder_serve.specs.Serve.{drainSaid};
 ghost use Rattle.reorder_pass.specs.Pass.{passSaid};
-ghost use Rattle.reorder_numbers.specs.LentCalls.{AreLentCalls};
-ghost use Rattle.reorder_numbers.specs.Numbered.{RefusalsHaveNumbers};
-ghost use Rattle.reorder_numbers.specs.Numbers.{held, served, passed, drained, listed, Opens, Offers, Serves, Drains, Passes};
+ghost use Rattle.reorder_numbers.specs.Numbers.{held, served, passed, drained, Opens, Offers, Serves, Drains, Passes};
 
 // A refusal's number and zeros; or 0, a kind (0 Waiting, 1 a packet, 2 a missing position) and a position.
 #[repr(C)]
@@ -125,53 +118,6 @@ fn drained_numbers(answer: DrainAnswer) -> Count
     }
 }
 
-// Stores a number at index i, where there is one.
-fn put_number(out: &mut [u32], i: usize, n: u32)
-    ensures { λ _. ⌜ now (out .exit) ≡ put (now (out .entry)) i (n ∷ []) ⌝ }
-{
-    if i < out.len() {
-        out[i] = n;
-    }
-}
-
-// Stores the kind and the position of each description from the start of out, as far as it goes.
-fn put_some(descriptions: [Description; 32], out: &mut [u32])
-    ensures { λ _. ⌜ now (out .exit) ≡ put (now (out .entry)) 0 (listed descriptions) ⌝ }
-{
-    let mut i = 0;
-    while i < 32 {
-        let description = descriptions[i];
-        put_number(out, 2 * i, description.kind);
-        put_number(out, 2 * i + 1, description.position);
-        i = i + 1;
-    }
-}
-
-// The same where there is room for all of them: no test in the loop, so that it compiles to wide moves.
-fn put_all(descriptions: [Description; 32], out: &mut [u32])
-    requires { ⌜ 64 ≤ length (now out) ⌝ }
-    ensures { λ _. ⌜ now (out .exit) ≡ put (now (out .entry)) 0 (listed descriptions) ⌝ }
-{
-    let mut i = 0;
-    while i < 32 {
-        let description = descriptions[i];
-        out[2 * i] = description.kind;
-        out[2 * i + 1] = description.position;
-        i = i + 1;
-    }
-}
-
-// The same for any out.
-fn put_descriptions(descriptions: [Description; 32], out: &mut [u32])
-    ensures { λ _. ⌜ now (out .exit) ≡ put (now (out .entry)) 0 (listed descriptions) ⌝ }
-{
-    if out.len() < 64 {
-        put_some(descriptions, out);
-    } else {
-        put_all(descriptions, out);
-    }
-}
-
 // Opens a session with this packet at position 0. A refused opening returns the session given.
 pub fn open(
     session: Session,
@@ -240,7 +186,7 @@ pub fn drain(
         };
     };
     let described = report.descriptions;
-    put_descriptions(described, descriptions);
+    reorder_descriptions::put_descriptions(described, descriptions);
     Counted {
         answer: count,
         session: after,
@@ -259,13 +205,3 @@ pub fn pass(session: Session) -> Answered
         session: after,
     }
 }
-
-// The calls in numbers are the calls over a lent session.
-pub fn are_lent_calls()
-    ensures { λ _. ⌜ AreLentCalls ⌝ }
-{}
-
-// No refusal is 0.
-pub fn refusals_have_numbers()
-    ensures { λ _. ⌜ RefusalsHaveNumbers ⌝ }
-{}

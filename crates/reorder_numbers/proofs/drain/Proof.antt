@@ -8,7 +8,8 @@ use Rattle.reorder_turn.specs.declared.Description.{Description}
 use Rattle.octets.specs.Refusal.{Said}
 use Rattle.reorder_turn.specs.Turn.{Turn}
 use Rattle.reorder_serve.specs.Serve.{drainSaid, drainOf, counted}
-use Rattle.reorder_numbers.specs.Numbers.{listed, tabled, Drains}
+use Rattle.reorder_descriptions.specs.Listed.{listed}
+use Rattle.reorder_numbers.specs.Numbers.{tabled, Drains}
 use Rattle.reorder_numbers.proofs.Said.{drains, table-stays, table-filled}
 use borrow.Author.Needs.{needs}
 use Rattle.reorder_numbers.proofs.drain.Statement.{statement}

@@ -1,8 +1,10 @@
 -- What `offer` promises, in numbers.
 use denote.Ref.{now}
-use Rattle.reorder_place.specs.Place.{said}
+use lib.ListN.{length}
+use Rattle.reorder_place.specs.Place.{said, offerSaid}
+use Rattle.reorder.specs.Offer.{offerOf}
+use Rattle.reorder_session.proofs.Said.{left-refused}
 use Rattle.reorder_turn.specs.Turn.{packet}
-use Rattle.reorder_lent.proofs.Comes.{offer-refusal}
 use Rattle.reorder_numbers.proofs.Said.{says}
 use borrow.Author.Needs.{needs}
 use Rattle.reorder_numbers.proofs.offer.Statement.{statement}
@@ -18,10 +20,12 @@ same-length : tie.Need-same-length
 same-length c = search needs
 
 returns : tie.Need-returns
+unfolding offerOf
 returns c =
     let a = c .before .before .before .before .before .before .before .before .args in
     let o = c .before .before .before .before .offer in
-    says packet (said (o .result .answer)) (offer-refusal (a .session) (now (a .store)) (now (a .packet))) (c .held-numbers .ensures) (o .ensures .0) (o .ensures .1 .0) (o .ensures .1 .1)
+    let y = offerSaid (a .session) (length (now (a .store))) (now (a .packet)) in
+    says packet (said (o .result .answer)) (left-refused y (a .session) (now (a .store)) _ _) (c .held-numbers .ensures) (o .ensures .0) (o .ensures .1 .0) (o .ensures .1 .1)
 
 pub offer-spec : {M : Type 1} → statement M
 offer-spec = tie.close (tie.spec offer-requires held-numbers-requires same-length returns)

@@ -1,8 +1,10 @@
 -- What `open-or` promises, in numbers.
 use denote.Ref.{now}
+use lib.ListN.{length}
 use Rattle.reorder_place.specs.Place.{said}
+use Rattle.reorder.specs.Offer.{openSaid, openOf}
+use Rattle.reorder_session.proofs.Said.{left-refused}
 use Rattle.reorder_turn.specs.Turn.{packet}
-use Rattle.reorder_lent.proofs.Comes.{open-refusal}
 use Rattle.reorder_numbers.proofs.Said.{says}
 use borrow.Author.Needs.{needs}
 use Rattle.reorder_numbers.proofs.open.Statement.{statement}
@@ -18,10 +20,12 @@ same-length : tie.Need-same-length
 same-length c = search needs
 
 returns : tie.Need-returns
+unfolding openOf
 returns c =
     let a = c .before .before .before .before .before .before .before .before .args in
     let o = c .before .before .before .before .open-or in
-    says packet (said (o .result .answer)) (open-refusal (a .session) (now (a .store)) (now (a .packet)) (a .threshold) (a .sum-word)) (c .held-numbers .ensures) (o .ensures .0) (o .ensures .1 .0) (o .ensures .1 .1)
+    let y = openSaid (length (now (a .store))) (now (a .packet)) (a .threshold) (a .sum-word) in
+    says packet (said (o .result .answer)) (left-refused y (a .session) (now (a .store)) _ _) (c .held-numbers .ensures) (o .ensures .0) (o .ensures .1 .0) (o .ensures .1 .1)
 
 pub open-spec : {M : Type 1} → statement M
 open-spec = tie.close (tie.spec open-or-requires held-numbers-requires same-length returns)

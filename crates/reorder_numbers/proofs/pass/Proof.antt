@@ -1,7 +1,10 @@
--- What `pass` promises, in numbers.
+-- What `pass` promises, in numbers; it is lent no bytes.
+use mathlib.Core.Path.{_≡_, refl}
+use mathlib.Core.List.{[]}
+use Rattle.octets.specs.Refusal.{say}
+use Rattle.reorder_session.proofs.Said.{outcome-cases, left-refused}
 use Rattle.reorder_turn.specs.Turn.{missing}
-use Rattle.reorder_pass.specs.Pass.{passSaid}
-use Rattle.reorder_lent.proofs.Comes.{pass-refusal, pass-bytes}
+use Rattle.reorder_pass.specs.Pass.{passSaid, passRefusal, passOf}
 use Rattle.reorder_numbers.proofs.Said.{says}
 use borrow.Author.Needs.{needs}
 use Rattle.reorder_numbers.proofs.pass.Statement.{statement}
@@ -14,10 +17,13 @@ passed-numbers-requires : tie.Need-passed-numbers-requires
 passed-numbers-requires c κs = search needs
 
 returns : tie.Need-returns
+unfolding passOf
 returns c =
     let s = c .before .before .before .args .session in
     let o = c .before .before .pass in
-    says missing (passSaid (o .result .answer)) (pass-refusal s) (c .passed-numbers .ensures) (o .ensures .0) (o .ensures .1) (pass-bytes s)
+    let y = say (passRefusal s) (s .window .next) in
+    says missing (passSaid (o .result .answer)) (left-refused y s [] _ _) (c .passed-numbers .ensures) (o .ensures .0) (o .ensures .1)
+    (outcome-cases (λ t b. [] ≡ b) y s [] _ _ refl (λ p e. refl))
 
 pub pass-spec : {M : Type 1} → statement M
 pass-spec = tie.close (tie.spec pass-requires passed-numbers-requires returns)

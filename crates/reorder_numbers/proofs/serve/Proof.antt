@@ -1,7 +1,11 @@
 -- What `serve` promises, in numbers.
 use denote.Ref.{now}
-use Rattle.reorder_turn.specs.Turn.{serveSaid}
-use Rattle.reorder_lent.proofs.Comes.{serve-refusal}
+use lib.ListN.{length}
+use Rattle.octets.specs.Refusal.{say}
+use Rattle.reorder_session.proofs.Said.{left-refused}
+use Rattle.reorder_turn.specs.Turn.{turn, serveSaid}
+use Rattle.reorder_turn.specs.Refusals.{serveRefusal}
+use Rattle.reorder_serve.specs.Serve.{serveOf}
 use Rattle.reorder_numbers.proofs.Said.{says}
 use borrow.Author.Needs.{needs}
 use Rattle.reorder_numbers.proofs.serve.Statement.{statement}
@@ -17,10 +21,12 @@ same-length : tie.Need-same-length
 same-length c = search needs
 
 returns : tie.Need-returns
+unfolding serveOf
 returns c =
     let a = c .before .before .before .before .before .before .before .before .args in
     let o = c .before .before .before .before .serve in
-    says (λ t. t) (serveSaid (o .result .answer)) (serve-refusal (a .session) (now (a .out)) (now (a .store))) (c .served-numbers .ensures) (o .ensures .0) (o .ensures .1 .0) (o .ensures .1 .1)
+    let y = say (serveRefusal (a .session) (length (now (a .store))) (length (now (a .out)))) (turn (a .session)) in
+    says (λ t. t) (serveSaid (o .result .answer)) (left-refused y (a .session) (now (a .out)) _ _) (c .served-numbers .ensures) (o .ensures .0) (o .ensures .1 .0) (o .ensures .1 .1)
 
 pub serve-spec : {M : Type 1} → statement M
 serve-spec = tie.close (tie.spec serve-requires served-numbers-requires same-length returns)

@@ -7,9 +7,9 @@ use lib.ListN.{getD}
 use borrow.Author.Needs.{needs}
 use Rattle.octets.specs.Bytes.{put}
 use Rattle.reorder_turn.specs.Turn.{none}
-use Rattle.reorder_numbers.proofs.Listed.{Stored, stored-none, stored-more, stored-length, stored-all}
-use Rattle.reorder_numbers.proofs.put_some.Statement.{statement}
-use Rattle.reorder_numbers.proofs.put_some.Tie as tie
+use Rattle.reorder_descriptions.proofs.Listed.{Stored, stored-none, stored-more, stored-length, stored-all}
+use Rattle.reorder_descriptions.proofs.put_some.Statement.{statement}
+use Rattle.reorder_descriptions.proofs.put_some.Tie as tie
 
 abbrev Inv-loop : tie.InvT-loop
 Inv-loop out₀ descriptions i₀ out i = Stored descriptions out₀ out i

@@ -1,5 +1,5 @@
 -- Descriptions stored as numbers, one after the other.
-use Prim.Native.Nat.{ℕ, suc, _+_, _*_, _<_, _≤_}
+use Prim.Native.Nat.{ℕ, _+_, _*_, _<_, _≤_}
 use mathlib.Core.Path.{_≡_, refl, sym, ap, _∙_}
 use mathlib.Core.List.{List, [], _∷_, _++_, append-assoc}
 use native.Mathlib.Numerals.{add-one}
@@ -10,7 +10,7 @@ use Rattle.octets.specs.Bytes.{put}
 use Rattle.octets.proofs.Store.{put-then, put-nothing, put-length}
 use Rattle.reorder_turn.specs.declared.Description.{Description}
 use Rattle.reorder_turn.specs.Turn.{none}
-use Rattle.reorder_numbers.specs.Numbers.{listed}
+use Rattle.reorder_descriptions.specs.Listed.{listed}
 
 listed-append : (a b : List Description) → listed (a ++ b) ≡ listed a ++ listed b
 listed-append [] b = refl

@@ -5,9 +5,9 @@ use native.Mathlib.Omega.{arith}
 use lib.ListN.{length, length-set}
 use borrow.Author.Needs.{needs}
 use Rattle.octets.specs.Bytes.{put}
-use Rattle.reorder_numbers.proofs.Listed.{Stored, stored-none, stored-more, stored-length, stored-all}
-use Rattle.reorder_numbers.proofs.put_all.Statement.{statement}
-use Rattle.reorder_numbers.proofs.put_all.Tie as tie
+use Rattle.reorder_descriptions.proofs.Listed.{Stored, stored-none, stored-more, stored-length, stored-all}
+use Rattle.reorder_descriptions.proofs.put_all.Statement.{statement}
+use Rattle.reorder_descriptions.proofs.put_all.Tie as tie
 
 abbrev Inv-loop : tie.InvT-loop
 Inv-loop out₀ descriptions i₀ out i = Stored descriptions out₀ out i

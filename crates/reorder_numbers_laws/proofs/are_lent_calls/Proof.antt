@@ -6,10 +6,10 @@ use Rattle.reorder_serve.specs.Serve.{serveOf, drainSaid, drainOf, counted, des
 use Rattle.reorder_pass.specs.Pass.{passOf}
 use Rattle.reorder_lent.proofs.Says.{offer-says, serve-says, drain-says, pass-says}
 use Rattle.reorder_lent.proofs.Comes.{open-refusal, offer-refusal, serve-refusal, drain-refusal, pass-refusal, pass-bytes, comes}
 use Rattle.reorder_numbers.specs.Numbers.{held, served, passed, drained}
 use Rattle.reorder_numbers.proofs.Said.{count-said, table-filled}
-use Rattle.reorder_numbers.proofs.are_lent_calls.Statement.{statement}
-use Rattle.reorder_numbers.proofs.are_lent_calls.Tie as tie
+use Rattle.reorder_numbers_laws.proofs.are_lent_calls.Statement.{statement}
+use Rattle.reorder_numbers_laws.proofs.are_lent_calls.Tie as tie
 
 returns : tie.Need-returns
 returns c =

@@ -3,8 +3,8 @@ use mathlib.Core.Path.{refl, sym}
 use lib.Seq.{set-out}
 use Rattle.octets.specs.Bytes.{put}
 use borrow.Author.Needs.{needs}
-use Rattle.reorder_numbers.proofs.put_number.Statement.{statement}
-use Rattle.reorder_numbers.proofs.put_number.Tie as tie
+use Rattle.reorder_descriptions.proofs.put_number.Statement.{statement}
+use Rattle.reorder_descriptions.proofs.put_number.Tie as tie
 
 mul-out : tie.Need-mul-out
 mul-out c = search needs

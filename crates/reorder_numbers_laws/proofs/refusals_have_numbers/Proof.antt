@@ -19,8 +19,8 @@ use Rattle.reorder_turn.specs.Turn.{turn, turns}
 use Rattle.reorder_turn.specs.Refusals.{serveRefusal, drainRefusal}
 use Rattle.reorder_serve.specs.Serve.{serveOf, drainOf}
 use Rattle.reorder_pass.specs.Pass.{passRefusal, passOf}
-use Rattle.reorder_numbers.proofs.refusals_have_numbers.Statement.{statement}
-use Rattle.reorder_numbers.proofs.refusals_have_numbers.Tie as tie
+use Rattle.reorder_numbers_laws.proofs.refusals_have_numbers.Statement.{statement}
+use Rattle.reorder_numbers_laws.proofs.refusals_have_numbers.Tie as tie
 
 abbrev Numbered : {A : Type 0} → Said A → Type 0
 Numbered x = (n : ℕ) → x ≡ refused n → n ≡ 0 → ⊥

@@ -15,9 +15,10 @@ use Rattle.reorder_turn.specs.Turn.{serveSaid}
 use Rattle.reorder_serve.specs.Serve.{drainSaid}
 use Rattle.reorder_pass.specs.Pass.{passSaid}
 use Rattle.reorder_lent.specs.Lent as Over
+use Rattle.reorder_descriptions.specs.Listed.{listed}
 use Rattle.reorder_numbers.specs.declared.Answer.{Answer}
 use Rattle.reorder_numbers.specs.declared.Count.{Count}
-use Rattle.reorder_numbers.specs.Numbers.{held, served, passed, drained, listed, Opens, Offers, Serves, Drains, Passes}
+use Rattle.reorder_numbers.specs.Numbers.{held, served, passed, drained, Opens, Offers, Serves, Drains, Passes}
 
 pub record AreLentCalls : Type 0 where
   pub opens : (s : Session) (store b : List ℕ) (threshold word : ℕ) (r : Answer) (t : Session) (c : List ℕ)

@@ -1,0 +1,2 @@
+pub mod LentCalls
+pub mod Numbered
