@@ -59,14 +59,14 @@ fn show_arrays(row: u64, arrays: PacketArrays) {
     }
 }
 
-// Whether a packet's fields, arrays and carried bytes, written again, give its own bytes.
-fn comes_back(bytes: &[u8], word: usize, f: PacketFields, arrays: PacketArrays) -> bool {
+// Whether a packet, read and written again, gives its own bytes.
+fn comes_back(bytes: &[u8], word: usize) -> bool {
     let mut again = [0; 1080];
-    packet_writer::write_packet(f, arrays, packet::carried(bytes), word, &mut again);
+    packet_laws::copy_packet(bytes, word, &mut again);
     show::same(bytes, &again)
 }
 
-fn accepted(bytes: &[u8], word: usize, f: PacketFields, arrays: PacketArrays) {
+fn accepted(bytes: &[u8], word: usize, f: PacketFields) {
     show::text(b": accepted, sum");
     if word < 540 {
         show::entry_16(octets::u16_at(bytes, word * 2));
@@ -74,7 +74,7 @@ fn accepted(bytes: &[u8], word: usize, f: PacketFields, arrays: PacketArrays) {
     show_fields(f);
     show::text(b", carried");
     show::entry(show::digest(packet::carried(bytes)));
-    if comes_back(bytes, word, f, arrays) {
+    if comes_back(bytes, word) {
         show::text(b", rewritten the same");
     }
 }
@@ -86,7 +86,7 @@ pub(crate) fn judge(bytes: &[u8], word: usize, row: u64) {
     let arrays = read.arrays;
     match answer {
         PacketAnswer::Refused(n) => show::refused(n),
-        PacketAnswer::Accepted(f) => accepted(bytes, word, f, arrays),
+        PacketAnswer::Accepted(f) => accepted(bytes, word, f),
     }
     show_arrays(row, arrays);
     show::check(packet::refusal_number(answer), row / tables::DUE);
