@@ -150,7 +150,7 @@ pub fn offer(session: Session, store: &mut [u8], packet: &[u8]) -> Answered
     }
 }
 
-// Serves the next position.
+// Serves the next position. A serve, a drain and a pass change the window alone, so that only the window is taken from the session returned.
 pub fn serve(session: Session, out: &mut [u8], store: &[u8]) -> Answered
     ensures { λ r. ⌜ Serves session (now (out .entry)) (now (store .entry)) (r .answer) (r .session) (now (out .exit)) ⌝ }
 {
@@ -159,7 +159,7 @@ pub fn serve(session: Session, out: &mut [u8], store: &[u8]) -> Answered
     let after = served.session;
     Answered {
         answer: served_numbers(answer),
-        session: after,
+        session: reorder_session::with_window(session, after.window),
     }
 }
 
@@ -175,7 +175,8 @@ pub fn drain(
         (r .answer) (r .session) (now (out .exit)) (now (descriptions .exit)) ⌝ }
 {
     let drained = reorder_serve::drain(session, out, store, budget);
-    let after = drained.session;
+    let returned = drained.session;
+    let after = reorder_session::with_window(session, returned.window);
     let report = drained.answer;
     let answer = report.answer;
     let count = drained_numbers(answer);
@@ -202,6 +203,6 @@ pub fn pass(session: Session) -> Answered
     let after = passed.session;
     Answered {
         answer: passed_numbers(answer),
-        session: after,
+        session: reorder_session::with_window(session, after.window),
     }
 }
