@@ -34,7 +34,7 @@ pub fn pass(session: Session) -> Passed
             session,
         };
     }
-    if window::is_held(window, next) {
+    if window::is_next_held(window) {
         return Passed {
             answer: PassAnswer::Refused(26),
             session,

@@ -44,7 +44,7 @@ fn step(session: Session, out: &mut [u8], store: &[u8], i: u32) -> Served
 {
     let window = session.window;
     let next = window.next;
-    if window::is_held(window, next) {
+    if window::is_next_held(window) {
         let from = 1080 * (next % 32) as usize;
         octets::write_into(&store[from..from + 1080], 1080 * i as usize, out);
         let after = Window {

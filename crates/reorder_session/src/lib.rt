@@ -30,9 +30,12 @@ pub fn is_broken(session: Session) -> bool
     let count = session.anchor.count;
     let threshold = session.threshold;
     let sum_word = session.sum_word;
-    let past_end = is_past_end(session.window);
-    (16_383 < count)
-        | (((threshold < 1) | (31 < threshold)) | (((sum_word < 53) | (539 < sum_word)) | past_end))
+    if (16_383 < count)
+        | (((threshold < 1) | (31 < threshold)) | ((sum_word < 53) | (539 < sum_word)))
+    {
+        return true;
+    }
+    is_past_end(session.window)
 }
 
 // The session with another window.

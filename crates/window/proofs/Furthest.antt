@@ -53,7 +53,7 @@ rotated-bit m k j hm hk hj =
 
 -- some held position is at least next + n exactly where the turned word has a bit from n on
 module _ (w : Window) (r : ℕ) (small : r < 2 ^ 32) (turned : Turned w r) where
-  turned-held : (j : ℕ) → j < 32 → heldAt w (w .next + j) ≡ eqb (bit r j) 1
+  pub turned-held : (j : ℕ) → j < 32 → heldAt w (w .next + j) ≡ eqb (bit r j) 1
   turned-held j h = held-inside w (w .next + j) (omega arith) (omega arith) ∙ ap (λ (n : ℕ). eqb n 1) (sym (turned j h))
 
   -- a held position from next + n on has its bit, from n on

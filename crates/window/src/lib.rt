@@ -39,6 +39,13 @@ fn turned(window: Window) -> u32
     (window.marks >> k) | (window.marks << ((32 - k) % 32))
 }
 
+// Whether next is held.
+pub fn is_next_held(window: Window) -> bool
+    ensures { λ r. ⌜ r ≡ heldAt window (window .next) ⌝ }
+{
+    turned(window) & 1 == 1
+}
+
 // Whether a position at least so far ahead of next is held: the furthest held has the fewest zeros before it.
 pub fn is_held_ahead(window: Window, least: u32) -> bool
     ensures { λ r. ⌜ r ≡ someHeld window (window .next + least) ⌝ }

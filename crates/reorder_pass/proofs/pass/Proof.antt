@@ -34,14 +34,14 @@ returns-2 c =
     let r = stays _ _ _ _ _ _ (say-refused _ _ _ n (λ q. omega arith)) in
     (r .0, r .1 .0)
 
-is-held-requires : tie.Need-is-held-requires
-is-held-requires c κs = search needs
+is-next-held-requires : tie.Need-is-next-held-requires
+is-next-held-requires c κs = search needs
 
 returns-3 : tie.Need-returns-3
 unfolding passOf passRefusal
 returns-3 c =
     let k = c .before .before in
-    let held = sym (c .before .is-held .ensures) ∙ c .if3 .taken in
+    let held = sym (c .before .is-next-held .ensures) ∙ c .if3 .taken in
     let n : 26 ≡ passRefusal (k .before .before .before .before .args .session) =
     pass _ 30 _ 26 (ap not (unbroken (k .before .before))) (pass _ 28 _ 26 (ap not (ne-eqb _ _ (k .if2 .left))) (fail _ 26 _ (ap not held))) in
     let r = stays _ _ _ _ _ _ (say-refused _ _ _ n (λ q. omega arith)) in
@@ -58,7 +58,7 @@ unfolding passOf passRefusal
 returns-4 c =
     let h = c .before .before in
     let k = h .before in
-    let free = sym (h .is-held .ensures) ∙ c .before .if3 .left in
+    let free = sym (h .is-next-held .ensures) ∙ c .before .if3 .left in
     let n : 0 ≡ passRefusal (k .before .before .before .before .args .session) =
     pass _ 30 _ 0 (ap not (unbroken (k .before .before))) (pass _ 28 _ 0 (ap not (ne-eqb _ _ (k .if2 .left))) (pass _ 26 _ 0 (ap not free) refl)) in
     let r = leaves _ [] _ _ _ _ _ [] (say-answered _ _ _ (sym n) refl) (c .with-window .ensures) refl in
@@ -71,7 +71,7 @@ pass-spec =
     is-broken-requires
     returns
     returns-2
-    is-held-requires
+    is-next-held-requires
     returns-3
     add-t11
     with-window-requires

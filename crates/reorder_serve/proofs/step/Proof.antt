@@ -18,10 +18,10 @@ part-is : (i n : ℕ) (s : List ℕ) → take ((i + n) - i) (drop i s) ≡ part 
 part-is i n s = let e : (i + n) - i ≡ n = omega arith in ap (λ (k : ℕ). take k (drop i s)) e
 
 free : (c : tie.Else1) → let w = c .before .before .before .before .before .args .session .window in heldAt w (w .next) ≡ false
-free c = sym (c .before .is-held .ensures) ∙ c .if1 .left
+free c = sym (c .before .is-next-held .ensures) ∙ c .if1 .left
 
-is-held-requires : tie.Need-is-held-requires
-is-held-requires c κs = search needs
+is-next-held-requires : tie.Need-is-next-held-requires
+is-next-held-requires c κs = search needs
 
 cast-from : tie.Need-cast-from
 cast-from c = search needs
@@ -67,7 +67,7 @@ returns c =
     let s = a .session in
     let from = slotStart (s .window .next) in
     did s (a .i) (now (a .store)) (now (a .out)) _ _ _
-    (turn-packet s (sym (t .before .is-held .ensures) ∙ t .if1 .taken))
+    (turn-packet s (sym (t .before .is-next-held .ensures) ∙ t .if1 .taken))
     (c .with-window .ensures ∙ ap (λ (m : ℕ). withWindow s (record { next = s .window .next + 1; marks = m })) (c .before .unmark .ensures))
     (w .write-into .ensures ∙ ap (put (now (a .out)) (1080 * a .i)) (part-is from 1080 (now (a .store))))
 
@@ -98,7 +98,7 @@ pub step-spec : {M : Type 1} → statement M
 step-spec =
     tie.close
     (tie.spec
-    is-held-requires
+    is-next-held-requires
     cast-from
     mul-from
     add-write-into
