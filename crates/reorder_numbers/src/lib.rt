@@ -56,31 +56,22 @@ fn held_numbers(answer: OfferAnswer) -> Answer
     }
 }
 
-// The numbers of what a serve answers.
+// The numbers of what a serve answers: but for a refusal, its description.
 fn served_numbers(answer: ServeAnswer) -> Answer
     ensures { λ r. ⌜ r ≡ served (serveSaid answer) ⌝ }
 {
-    match answer {
-        ServeAnswer::Refused(n) => Answer {
+    if let ServeAnswer::Refused(n) = answer {
+        return Answer {
             refusal: n as u32,
             kind: 0,
             position: 0,
-        },
-        ServeAnswer::Packet(p) => Answer {
-            refusal: 0,
-            kind: 1,
-            position: p,
-        },
-        ServeAnswer::Missing(p) => Answer {
-            refusal: 0,
-            kind: 2,
-            position: p,
-        },
-        ServeAnswer::Waiting => Answer {
-            refusal: 0,
-            kind: 0,
-            position: 0,
-        },
+        };
+    }
+    let description = reorder_turn::describe(answer);
+    Answer {
+        refusal: 0,
+        kind: description.kind,
+        position: description.position,
     }
 }
 
