@@ -2,17 +2,15 @@
 -- `(2 ^ w - 1) - a`, at w bits; `&` and `|` are `bitAnd` and `bitOr`.
 use mathlib.Core.Path.{_≡_, refl, sym, ap, ap₂, _∙_, subst}
 use mathlib.Core.Logic.{_⊎_, inl, inr, ⊎-elim}
-use mathlib.Core.Bool.{not}
 use Prim.Native.Nat.{ℕ, zero, suc, _+_, _-_, _*_, _/_, _%_, _^_, _≤_, _<_, zero-le, suc-le-suc, min, max}
-use native.Mathlib.Nat.{add-comm, one-mul, zero-mul, pow-suc, le-of-suc-le-suc, lt-of-lt-of-le, zero-lt-suc}
+use native.Mathlib.Nat.{add-comm, one-mul, pow-suc, le-of-suc-le-suc, lt-of-lt-of-le, zero-lt-suc}
 use native.Mathlib.Nat.{div-one, div-self, div-eq-of-lt, div-eq-of-lt-le, mod-one, mod-lt}
 use native.Mathlib.Numerals.{one-add}
 use native.Mathlib.Omega.{arith}
-use borrow.Author.Tests.{ne-eqb}
-use lib.Dec.{lit<, eqb}
+use lib.Dec.{lit<}
 use lib.Pow.{pow-pos, pow-mono, pow-lt, shl-exact, shl-shr, shr-shr, field, mod-mod-pow, mod-pow-add, high-ones}
 use lib.Bits.{bitAnd, bitOr, and-step, or-step, and-shr, or-shr, and-le-l, and-mask, and-high}
-use lib.Bits.{or-add-and, or-lt, or-shifted, shifted-half, shifted-even}
+use lib.Bits.{or-add-and, shifted-half, shifted-even}
 use lib.Count.{ones, ones-cat}
 use Rattle.numbers.specs.Bit.{bit, bitsSet, clearBit, setBit}
 

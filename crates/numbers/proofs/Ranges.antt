@@ -6,7 +6,7 @@ use native.Mathlib.Nat.{mul-le-mul-left, mul-add, le-trans, le-of-eq, le-of-lt, 
 use lib.Dec.{T, ltb, leb, ltb→lt, leb→le}
 use lib.Pow.{pow-mono}
 use lib.IntN.{ℤ, pos, negsuc, natAbs, _+ℤ_, _-ℤ_, _*ℤ_}
-use lib.Signed.{mag, quotZ, shrZ, mag-shr, natAbs-le}
+use lib.Signed.{mag, quotZ, shrZ, natAbs-le}
 use mir.Syntax.{Width}
 use mir.Val.{SFits, Fits, bits, hbits, toZ, ofZ}
 use mir.ValLaws.{toZ-ofZ, toZ-pos, sfits-le}

@@ -16,7 +16,7 @@ listed-append : (a b : List Description) → listed (a ++ b) ≡ listed a ++ lis
 listed-append [] b = refl
 listed-append (d ∷ a) b = ap (λ (l : List ℕ). d .kind ∷ d .position ∷ l) (listed-append a b)
 
-listed-length : (ds : List Description) → length (listed ds) ≡ 2 * length ds
+pub listed-length : (ds : List Description) → length (listed ds) ≡ 2 * length ds
 listed-length [] = refl
 listed-length (d ∷ ds) = let e : length (listed ds) ≡ 2 * length ds = listed-length ds in omega arith
 

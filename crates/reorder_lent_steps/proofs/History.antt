@@ -11,7 +11,7 @@ use Rattle.reorder_pass.specs.declared.PassAnswer.{PassAnswer}
 use Rattle.reorder_serve.specs.declared.Report.{Report}
 use Rattle.reorder_turn.specs.Turn.{serveSaid}
 use Rattle.reorder_pass.specs.Pass.{passSaid}
-use Rattle.reorder_histories.specs.Histories.{offer, serve, drain, pass, Event, offerTells, serveTells, drainTells, passTells, State}
+use Rattle.reorder_histories.specs.Histories.{offer, serve, drain, pass, offerTells, serveTells, drainTells, passTells, State}
 use Rattle.reorder_steps.specs.Steps.{reported, IsStart, IsStep, IsPassStep}
 use Rattle.reorder_steps.proofs.Steps.{short}
 use Rattle.reorder_lent.specs.Lent.{Opens, Offers, Serves, Drains, Passes}

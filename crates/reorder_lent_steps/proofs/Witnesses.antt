@@ -1,20 +1,16 @@
 -- The promises of any opening and any list of calls can all hold: what a call says is said by some answer, and the rest is as it promises.
-use Prim.Native.Nat.{ℕ, zero, suc, _+_}
+use Prim.Native.Nat.{ℕ, _+_}
 use mathlib.Core.Path.{_≡_, refl, sym, ap, _∙_}
 use mathlib.Core.List.{List, [], _∷_, _++_}
-use native.Mathlib.Omega.{arith}
-use lib.ListN.{length}
-use Rattle.octets.specs.Refusal.{Said, refused, answered, say}
+use Rattle.octets.specs.Refusal.{Said}
 use Rattle.reorder_session.specs.declared.Session.{Session}
-use Rattle.reorder_session.specs.Outcome.{outcome}
 use Rattle.reorder_place.specs.Place.{said}
 use Rattle.reorder.specs.Offer.{openOf, offerOf}
 use Rattle.reorder_serve.specs.declared.Report.{Report}
-use Rattle.reorder_turn.specs.Turn.{Turn, packet, missing, waiting, turns, turnedAll, shownAll, serveSaid}
+use Rattle.reorder_turn.specs.Turn.{Turn}
 use Rattle.reorder_serve.specs.Serve.{serveOf, drainSaid, drainOf, counted, descriptions, countSaid}
-use Rattle.reorder_turn.specs.Refusals.{drainRefusal}
-use Rattle.reorder_pass.specs.Pass.{passSaid, passOf}
-use Rattle.reorder_turn.proofs.Turns.{counted-next}
+use Rattle.reorder_pass.specs.Pass.{passOf}
+use Rattle.reorder_serve.proofs.Count.{drain-count}
 use Rattle.reorder_histories.specs.Histories.{Call, offer, serve, drain, pass, offerTells, serveTells, drainTells, passTells, State, step, run, Consumer, atStart, atEnd}
 use Rattle.reorder_steps.proofs.Steps.{reads-back}
 use Rattle.reorder_lent.specs.Lent.{Drains}
@@ -22,25 +18,14 @@ use Rattle.reorder_lent.proofs.Says.{offer-says, serve-says, drain-says, pass-s
 use Rattle.reorder_lent.proofs.Comes.{open-refusal, offer-refusal, serve-refusal, drain-refusal, pass-refusal, pass-bytes, comes}
 use Rattle.reorder_lent_steps.specs.LentCalls.{LentCall, LentCalls, LentConsumer}
 
--- ---- a drain's count
-
-count-is-next : (n budget : ℕ) (s : Session) (out store : List ℕ)
-    → outcome (say n (turns budget s)) s out (turnedAll s) (shownAll 0 store out) .session .window .next
-    ≡ s .window .next + countSaid (counted (outcome (say n (turns budget s)) s out (turnedAll s) (shownAll 0 store out) .said))
-unfolding say
-count-is-next zero budget s out store = counted-next budget s
-count-is-next (suc n) budget s out store = omega arith
-
 drains : (s : Session) (out store : List ℕ) (budget : ℕ) (r : Report) → drainSaid (r .answer) ≡ counted (drainOf s out store budget .said)
     → r .descriptions ≡ descriptions (drainOf s out store budget .said)
     → Drains s out store budget r (drainOf s out store budget .session) (drainOf s out store budget .bytes)
-unfolding drainOf
 drains s out store budget r e f =
     record {
       comes = comes (drain-refusal s out store budget) e refl refl;
       described = f;
-      count = count-is-next (drainRefusal s (length store) (length out) budget) budget s out store
-          ∙ ap (λ (x : Said ℕ). s .window .next + countSaid x) (sym e);
+      count = drain-count s out store budget ∙ ap (λ (x : Said ℕ). s .window .next + countSaid x) (sym e);
     }
 
 -- ---- the calls

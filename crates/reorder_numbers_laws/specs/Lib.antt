@@ -1,2 +1,3 @@
 pub mod LentCalls
 pub mod Numbered
+pub mod NumberedCalls

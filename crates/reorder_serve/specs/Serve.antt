@@ -24,6 +24,7 @@ abbrev pub drainSaid : DrainAnswer → Said ℕ
 drainSaid (Refused n) = refused n
 drainSaid (Count n) = answered n
 
+-- a drain answers the turns within its budget, and leaves what they leave
 unfoldable pub drainOf : Session → List ℕ → List ℕ → ℕ → Outcome (List Turn)
 drainOf s out store budget =
     outcome (say (drainRefusal s (length store) (length out) budget) (turns budget s)) s out (turnedAll s) (shownAll 0 store out)

@@ -15,10 +15,18 @@ use Rattle.reorder_steps.specs.Steps.{describedBy, firstOf, reported, Is
 
 -- ---- one call
 
--- states with the same parts are the same, whatever was told before
+-- the same parts stand in the same state, whatever was told before
 pub stands : {s t : Session} {b c : List ℕ} {told tells : List Event} → s ≡ t → b ≡ c → told ≡ tells → (events : List Event)
     → _≡_ {A = State} (record { session = s; store = b; events = events ++ told }) (record { session = t; store = c; events = events ++ tells })
 stands e f g events = λ i. record { session = e i; store = f i; events = events ++ g i }
+
+-- states with the same parts are the same
+pub is-state : {w u : State} → w .session ≡ u .session → w .store ≡ u .store → w .events ≡ u .events → w ≡ u
+is-state e f g = λ i. record { session = e i; store = f i; events = g i }
+
+-- events told after those of w
+pub told-after : {l : List Event} (w : State) {told tells : List Event} → l ≡ w .events ++ told → told ≡ tells → l ≡ w .events ++ tells
+told-after w e f = e ∙ ap (λ (k : List Event). w .events ++ k) f
 
 -- ---- what a drain reports
 

@@ -2,10 +2,9 @@
 use Prim.Native.Nat.{ℕ, zero, suc, _+_, _-_, _≤_, _<_}
 use mathlib.Core.Path.{_≡_, refl, sym, ap, _∙_, subst}
 use mathlib.Core.Bool.{Bool, true, false, cond}
-use mathlib.Core.List.{List, [], _∷_, _++_, map, append-assoc, append-nil}
-use native.Mathlib.Nat.{sub-zero}
+use mathlib.Core.List.{List, [], _∷_, _++_, map, append-assoc}
 use native.Mathlib.Omega.{arith}
-use lib.ListN.{length, replicate, set, length-append, length-set}
+use lib.ListN.{length, replicate, set, length-append}
 use Rattle.octets.specs.Refusal.{answered}
 use Rattle.octets.proofs.Store.{put-length}
 use Rattle.window.specs.Window.{heldAt, someHeld}

@@ -7,10 +7,9 @@ use native.Mathlib.Nat.{mul-one}
 use native.Mathlib.Decide.{decLt}
 use native.Mathlib.Omega.{arith}
 use borrow.Author.Tests.{eq-eqb, eqb-true, le-leb, lt-leb}
-use lib.Bits.{bitOr, or-lt}
+use lib.Bits.{bitOr}
 use lib.Count.{leadingZeros, leading-top, leading-of-zero}
 use lib.Dec.{eqb, leb}
-use lib.Pow.{shr-le}
 use Rattle.numbers.specs.Bit.{bit}
 use Rattle.numbers.proofs.Bits.{lt-or-ge, bit-or, bit-shr, bit-shl, bit-shl-below, bit-mod, bit-above, bit-top}
 use Rattle.window.specs.declared.Window.{Window}

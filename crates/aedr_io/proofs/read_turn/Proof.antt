@@ -1,5 +1,4 @@
 -- No text after a failed read, else the report.
-use native.Mathlib.Omega.{arith}
 use denote.Ref.{now}
 use borrow.Author.Needs.{needs}
 use Rattle.aedr_io.proofs.Texts.{turn-failed, turn-report}

@@ -3,7 +3,6 @@ use mathlib.Core.Path.{sym, ap, _∙_}
 use Rattle.packet.specs.declared.PacketFields.{PacketFields}
 use Rattle.packet.specs.declared.PacketAnswer.{PacketAnswer}
 use Rattle.packet.specs.Read.{said}
-use Rattle.mola.specs.declared.PacketNumbers.{PacketNumbers}
 use Rattle.mola.specs.Read.{inNumbers}
 use borrow.Author.Needs.{needs}
 use Rattle.mola.proofs.mola_read_packet.Statement.{statement}

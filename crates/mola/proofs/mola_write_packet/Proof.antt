@@ -1,5 +1,5 @@
 -- The number of each case; the bytes are the writer's.
-use mathlib.Core.Path.{_≡_, sym, ap, _∙_}
+use mathlib.Core.Path.{sym, ap, _∙_}
 use Rattle.octets.specs.Refusal.{numberSaid}
 use Rattle.octets.proofs.Ladder.{number-say}
 use Rattle.packet_writer.specs.declared.PacketWritten.{PacketWritten}

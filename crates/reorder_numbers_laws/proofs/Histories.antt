@@ -1,0 +1,159 @@
+-- What a call in numbers promises, as a step; and a history of such calls, as a run.
+use Prim.Native.Nat.{ℕ, _≤_}
+use mathlib.Core.Path.{_≡_, refl, sym, ap, _∙_}
+use mathlib.Core.List.{List, [], _∷_, _++_}
+use native.Mathlib.Omega.{arith}
+use lib.ListN.{length, replicate, length-replicate}
+use Rattle.octets.specs.Refusal.{Said, answered, say}
+use Rattle.octets.proofs.Ladder.{answer-said}
+use Rattle.reorder_session.specs.declared.Session.{Session}
+use Rattle.reorder_session.proofs.Said.{left}
+use Rattle.reorder.specs.Offer.{openOf, offerOf}
+use Rattle.reorder_turn.specs.Turn.{Turn, packet, missing, turns, turnedAll, shownAll}
+use Rattle.reorder_turn.specs.Refusals.{drainRefusal}
+use Rattle.reorder_turn.proofs.Ready.{drain-ready}
+use Rattle.reorder_serve.specs.Serve.{serveOf, drainOf, counted}
+use Rattle.reorder_serve.proofs.Count.{drain-count}
+use Rattle.reorder_pass.specs.Pass.{passOf}
+use Rattle.reorder_laws.proofs.Drains.{turns-most}
+use Rattle.reorder_histories.specs.Histories.{Call, offer, serve, drain, pass, offerTells, serveTells, drainTells, passTells, State, start, step, run, Consumer, atStart, atEnd, HigherThresholdLosesNothing}
+use Rattle.reorder_steps.proofs.Steps.{is-state, told-after}
+use Rattle.reorder_lent.proofs.Comes.{open-refusal, offer-refusal, serve-refusal, pass-refusal, pass-bytes}
+use Rattle.reorder_numbers.specs.Numbers.{held, served, passed, drained, tabled}
+use Rattle.reorder_numbers.proofs.Said.{says, drains}
+use Rattle.reorder_numbers_laws.specs.NumberedCalls.{positionSaid, turnSaid, turnsSaid, NumberedOpen, NumberedCall, NumberedCalls, NumberedConsumer, NumberedHistoriesLoseNothing}
+use Rattle.reorder_numbers_laws.proofs.Refusals.{open-numbered, offer-numbered, serve-numbered, drain-numbered, pass-numbered}
+use Rattle.reorder_numbers_laws.proofs.Said.{position-said, turn-said, turns-said}
+
+-- ---- what is said, read from the numbers
+
+open-said : (s : Session) (store b : List ℕ) (h w : ℕ) → positionSaid (held (openOf s store b h w .said)) ≡ openOf s store b h w .said
+open-said s store b h w = position-said packet (λ p. refl) _ (open-numbered s store b h w)
+
+offer-said : (s : Session) (store b : List ℕ) → positionSaid (held (offerOf s store b .said)) ≡ offerOf s store b .said
+offer-said s store b = position-said packet (λ p. refl) _ (offer-numbered s store b)
+
+serve-said : (s : Session) (out store : List ℕ) → turnSaid (served (serveOf s out store .said)) ≡ serveOf s out store .said
+serve-said s out store = turn-said _ (serve-numbered s out store)
+
+pass-said : (s : Session) → positionSaid (passed (passOf s .said)) ≡ passOf s .said
+pass-said s = position-said missing (λ p. refl) _ (pass-numbered s)
+
+-- a drain answers at most 32 times
+drain-most : (s : Session) (out store : List ℕ) (budget : ℕ) (ts : List Turn) → drainOf s out store budget .said ≡ answered ts → length ts ≤ 32
+unfolding drainOf
+drain-most s out store budget ts e =
+    let k = left (say (drainRefusal s (length store) (length out) budget) (turns budget s)) s out (turnedAll s) (shownAll 0 store out) ts e in
+    let a = answer-said (drainRefusal s (length store) (length out) budget) (turns budget s) ts (sym (k .answer)) in
+    let r = drain-ready s (length store) (length out) budget (a .0) in
+    let m : length ts ≡ length (turns budget s) = ap length (a .1) in
+    omega (arith, m, r .most, turns-most budget s)
+
+drain-said : (s : Session) (out store : List ℕ) (budget : ℕ) (d : List ℕ) → 64 ≤ length d → let x = drainOf s out store budget .said in
+    turnsSaid (drained (counted x)) (tabled x d) ≡ x
+drain-said s out store budget d room = turns-said _ d (drain-numbered s out store budget) (drain-most s out store budget) room
+
+-- ---- a call is a step, a history a run
+
+is-start : (s : Session) (store b : List ℕ) (threshold word : ℕ) (u : State) → NumberedOpen s store b threshold word u
+    → u ≡ start (openOf s store b threshold word) b
+is-start s store b h w u c =
+    is-state (c .promised .session) (c .promised .bytes)
+    (c .told ∙ ap (λ (x : Said ℕ). offerTells x b) (ap positionSaid (c .promised .answer) ∙ open-said s store b h w))
+
+is-step : (w u : State) (c : Call) → NumberedCall w c u → u ≡ step w c
+unfolding step
+is-step w u (offer b) c =
+    let e = ap positionSaid (c .promised .answer) ∙ offer-said (w .session) (w .store) b in
+    is-state (c .promised .session) (c .promised .bytes) (told-after w (c .told) (ap (λ (x : Said ℕ). offerTells x b) e))
+is-step w u (serve out) c =
+    let e = ap turnSaid (c .promised .answer) ∙ serve-said (w .session) out (w .store) in
+    is-state (c .promised .session) (c .same-store) (told-after w (c .told) (λ i. serveTells (e i) (c .promised .bytes i)))
+is-step w u (drain out budget) c =
+    let p = c .promised in
+    let e = (λ i. turnsSaid (p .says .answer i) (p .table i)) ∙ drain-said (w .session) out (w .store) budget (c .before) (c .room) in
+    is-state (p .says .session) (c .same-store) (told-after w (c .told) (λ i. drainTells (e i) (p .says .bytes i)))
+is-step w u pass c =
+    let e = ap positionSaid (c .promised .answer) ∙ pass-said (w .session) in
+    is-state (c .promised .session) (c .same-store) (told-after w (c .told) (ap passTells e))
+
+are-runs : (w u : State) (cs : List Call) → NumberedCalls w cs u → u ≡ run w cs
+unfolding NumberedCalls run
+are-runs w u [] e = e
+are-runs w u (c ∷ cs) (v, d, m) = are-runs v u cs m ∙ ap (λ (x : State). run x cs) (is-step w v c d)
+
+comes-to-end : (c : Consumer) (b : List ℕ) (word : ℕ) (u : State) → NumberedConsumer c b word u → u ≡ atEnd c b word
+comes-to-end c b word u (v, o, m) = are-runs v u (c .calls) m ∙ ap (λ (x : State). run x (c .calls)) (is-start _ _ b _ word v o)
+
+-- ---- the promises can all hold
+
+abbrev zeros : List ℕ
+zeros = replicate 64 0
+
+zeros-room : 64 ≤ length zeros
+zeros-room = omega (arith, length-replicate {A = ℕ} 64 0)
+
+call-holds : (w : State) (c : Call) → NumberedCall w c (step w c)
+unfolding step
+call-holds w (offer b) =
+    let o = offerOf (w .session) (w .store) b in
+    record {
+      answer = held (o .said);
+      promised = says packet (o .said) (offer-refusal (w .session) (w .store) b) refl refl refl refl;
+      told = ap (λ (x : Said ℕ). w .events ++ offerTells x b) (sym (offer-said (w .session) (w .store) b));
+    }
+call-holds w (serve out) =
+    let o = serveOf (w .session) out (w .store) in
+    record {
+      answer = served (o .said);
+      output = o .bytes;
+      promised = says (λ t. t) (o .said) (serve-refusal (w .session) out (w .store)) refl refl refl refl;
+      same-store = refl;
+      told = ap (λ (x : Said Turn). w .events ++ serveTells x (o .bytes)) (sym (serve-said (w .session) out (w .store)));
+    }
+call-holds w (drain out budget) =
+    let o = drainOf (w .session) out (w .store) budget in
+    record {
+      answer = drained (counted (o .said));
+      output = o .bytes;
+      before = zeros;
+      room = zeros-room;
+      after = tabled (o .said) zeros;
+      promised = drains (w .session) out (w .store) budget zeros (counted (o .said)) refl refl refl refl (drain-count (w .session) out (w .store) budget) refl;
+      same-store = refl;
+      told = ap (λ (x : Said (List Turn)). w .events ++ drainTells x (o .bytes)) (sym (drain-said (w .session) out (w .store) budget zeros zeros-room));
+    }
+call-holds w pass =
+    record {
+      answer = passed (passOf (w .session) .said);
+      promised = says missing (passOf (w .session) .said) (pass-refusal (w .session)) refl refl refl (pass-bytes (w .session));
+      same-store = refl;
+      told = ap (λ (x : Said ℕ). w .events ++ passTells x) (sym (pass-said (w .session)));
+    }
+
+calls-hold : (w : State) (cs : List Call) → NumberedCalls w cs (run w cs)
+unfolding NumberedCalls run
+calls-hold w [] = refl
+calls-hold w (c ∷ cs) = (step w c, call-holds w c, calls-hold (step w c) cs)
+
+can-hold : (c : Consumer) (b : List ℕ) (word : ℕ) → NumberedConsumer c b word (atEnd c b word)
+can-hold c b word =
+    let o = openOf (c .before) (c .store) b (c .threshold) word in (
+      atStart c b word,
+      record {
+        answer = held (o .said);
+        promised = says packet (o .said) (open-refusal (c .before) (c .store) b (c .threshold) word) refl refl refl refl;
+        told = ap (λ (x : Said ℕ). offerTells x b) (sym (open-said (c .before) (c .store) b (c .threshold) word));
+      },
+      calls-hold (atStart c b word) (c .calls),
+    )
+
+pub numbered-histories-lose-nothing : HigherThresholdLosesNothing → NumberedHistoriesLoseNothing
+numbered-histories-lose-nothing h =
+    record {
+      can-hold = can-hold;
+      is-start = is-start;
+      is-step = is-step;
+      are-runs = are-runs;
+      lose-nothing = λ less more b word u v o m n. rw (comes-to-end less b word u m, comes-to-end more b word v n) (h less more b word o);
+    }

@@ -1,0 +1,121 @@
+-- The calls in numbers and the lists of demand 3: "Each call gets the session and store that the last one returned or left." What each call promises,
+-- of the numbers that it gave, makes a step of a list.
+use Prim.Native.Nat.{ℕ, zero, suc, _≤_}
+use mathlib.Core.Path.{_≡_}
+use mathlib.Core.List.{List, [], _∷_, _++_}
+use lib.ListN.{length}
+use Rattle.octets.specs.Refusal.{Said, say}
+use Rattle.reorder_session.specs.declared.Session.{Session}
+use Rattle.reorder.specs.Offer.{openOf}
+use Rattle.reorder_turn.specs.Turn.{Turn}
+use Rattle.reorder_histories.specs.Histories.{
+  Call,
+  offer,
+  serve,
+  drain,
+  pass,
+  offerTells,
+  serveTells,
+  drainTells,
+  passTells,
+  State,
+  start,
+  step,
+  run,
+  Consumer,
+  atEnd,
+  OpenedAlike,
+  NothingLost,
+}
+use Rattle.reorder_steps.specs.Steps.{describedBy}
+use Rattle.reorder_numbers.specs.declared.Answer.{Answer}
+use Rattle.reorder_numbers.specs.declared.Count.{Count}
+use Rattle.reorder_numbers.specs.Numbers.{Opens, Offers, Serves, Drains, Passes}
+
+-- ---- what the numbers say
+
+-- kind and position as a drain describes them: 1 a packet, 2 a missing position, 0 Waiting
+abbrev pub turnBy : ℕ → ℕ → Turn
+turnBy kind position = describedBy (record { kind = kind; position = position })
+
+-- the answer of an opening, an offer or a pass; of a serve
+abbrev pub positionSaid : Answer → Said ℕ
+positionSaid r = say (r .refusal) (r .position)
+
+abbrev pub turnSaid : Answer → Said Turn
+turnSaid r = say (r .refusal) (turnBy (r .kind) (r .position))
+
+-- of a drain: as many answers as it counts, each by two of the numbers that were lent
+abbrev pub turnsIn : ℕ → List ℕ → List Turn
+turnsIn zero e = []
+turnsIn (suc n) [] = []
+turnsIn (suc n) (kind ∷ []) = []
+turnsIn (suc n) (kind ∷ position ∷ e) = turnBy kind position ∷ turnsIn n e
+
+abbrev pub turnsSaid : Count → List ℕ → Said (List Turn)
+turnsSaid r e = say (r .refusal) (turnsIn (r .count) e)
+
+-- ---- one call
+
+-- an opening with the packet b, of the session s and a store: what it left, and what its numbers tell, is u
+pub record NumberedOpen (s : Session) (store b : List ℕ) (threshold word : ℕ) (u : State) : Type 0 where
+  pub answer : Answer
+  pub promised : Opens s store b threshold word answer (u .session) (u .store)
+  pub told : u .events ≡ offerTells (positionSaid answer) b
+
+-- a call of the session and the store of w, likewise; `output` is what a serve or a drain leaves in its output
+pub record NumberedOffer (w : State) (b : List ℕ) (u : State) : Type 0 where
+  pub answer : Answer
+  pub promised : Offers (w .session) (w .store) b answer (u .session) (u .store)
+  pub told : u .events ≡ w .events ++ offerTells (positionSaid answer) b
+
+pub record NumberedServe (w : State) (out : List ℕ) (u : State) : Type 0 where
+  pub answer : Answer
+  pub output : List ℕ
+  pub promised : Serves (w .session) out (w .store) answer (u .session) output
+  pub same-store : u .store ≡ w .store
+  pub told : u .events ≡ w .events ++ serveTells (turnSaid answer) output
+
+-- a drain that is lent room for all its descriptions, and left the numbers `after` where `before` stood
+pub record NumberedDrain (w : State) (out : List ℕ) (budget : ℕ) (u : State) : Type 0 where
+  pub answer : Count
+  pub output : List ℕ
+  pub before : List ℕ
+  pub room : 64 ≤ length before
+  pub after : List ℕ
+  pub promised : Drains (w .session) out (w .store) budget before answer (u .session) output after
+  pub same-store : u .store ≡ w .store
+  pub told : u .events ≡ w .events ++ drainTells (turnsSaid answer after) output
+
+pub record NumberedPass (w : State) (u : State) : Type 0 where
+  pub answer : Answer
+  pub promised : Passes (w .session) answer (u .session)
+  pub same-store : u .store ≡ w .store
+  pub told : u .events ≡ w .events ++ passTells (positionSaid answer)
+
+abbrev pub NumberedCall : State → Call → State → Type 0
+NumberedCall w (offer b) u = NumberedOffer w b u
+NumberedCall w (serve out) u = NumberedServe w out u
+NumberedCall w (drain out budget) u = NumberedDrain w out budget u
+NumberedCall w pass u = NumberedPass w u
+
+-- ---- a history
+
+-- each call of the list is given what the last one left
+unfoldable pub NumberedCalls : State → List Call → State → Type 0
+NumberedCalls w [] u = u ≡ w
+NumberedCalls w (c ∷ cs) u = (v : State) × NumberedCall w c v × NumberedCalls v cs u
+
+-- a consumer whose opening with the packet b, and then whose calls, came to u
+abbrev pub NumberedConsumer : Consumer → List ℕ → ℕ → State → Type 0
+NumberedConsumer c b word u = (v : State) × NumberedOpen (c .before) (c .store) b (c .threshold) word v × NumberedCalls v (c .calls) u
+
+pub record NumberedHistoriesLoseNothing : Type 0 where
+  -- the promises of any opening and of any list of calls can all hold
+  pub can-hold : (c : Consumer) (b : List ℕ) (word : ℕ) → NumberedConsumer c b word (atEnd c b word)
+  pub is-start : (s : Session) (store b : List ℕ) (threshold word : ℕ) (u : State) → NumberedOpen s store b threshold word u
+      → u ≡ start (openOf s store b threshold word) b
+  pub is-step : (w u : State) (c : Call) → NumberedCall w c u → u ≡ step w c
+  pub are-runs : (w u : State) (cs : List Call) → NumberedCalls w cs u → u ≡ run w cs
+  pub lose-nothing : (less more : Consumer) (b : List ℕ) (word : ℕ) (u v : State) → OpenedAlike less more b word
+      → NumberedConsumer less b word u → NumberedConsumer more b word v → NothingLost u v
