@@ -3,6 +3,7 @@ use reorder_pass::PassAnswer;
 use reorder_place::OfferAnswer;
 use reorder_serve::DrainAnswer;
 use reorder_session::Session;
+use reorder_turn::Description;
 use reorder_turn::ServeAnswer;
 ghost use mathlib.Core.Path.{_≡_};
 ghost use Rattle.reorder_place.specs.Place.{said};
@@ -155,7 +156,7 @@ pub fn serve(session: Session, out: &mut [u8], store: &[u8]) -> Answered
 }
 
 // Serves until a serve waits or the budget is spent; the answers are described in the lent numbers, unless it is refused.
-pub fn drain(
+fn drain_turns(
     session: Session,
     out: &mut [u8],
     store: &[u8],
@@ -183,6 +184,35 @@ pub fn drain(
         answer: count,
         session: after,
     }
+}
+
+// The same, but that a drain that has nothing to serve stores its zeros at once, with no array of descriptions between.
+pub fn drain(
+    session: Session,
+    out: &mut [u8],
+    store: &[u8],
+    budget: u32,
+    descriptions: &mut [u32],
+) -> Counted
+    ensures { λ r. ⌜ Drains session (now (out .entry)) (now (store .entry)) budget (now (descriptions .entry))
+        (r .answer) (r .session) (now (out .exit)) (now (descriptions .exit)) ⌝ }
+{
+    let n = reorder_turn::drain_refusal(session, store.len(), out.len(), budget);
+    if (n == 0) & reorder_turn::waits(session) {
+        let none = [Description {
+            kind: 0,
+            position: 0,
+        }; 32];
+        reorder_descriptions::put_descriptions(none, descriptions);
+        return Counted {
+            answer: Count {
+                refusal: 0,
+                count: 0,
+            },
+            session,
+        };
+    }
+    drain_turns(session, out, store, budget, descriptions)
 }
 
 // Passes next over, by hand.

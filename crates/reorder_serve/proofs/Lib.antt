@@ -1,2 +1,3 @@
 mod Running
 pub mod Count
+pub mod Waits

@@ -1,6 +1,6 @@
 -- Document 01, "The rack": what serving answers, and what it leaves.
 use Prim.Native.Nat.{ℕ, zero, suc, _+_, _-_, _*_}
-use mathlib.Core.Bool.{cond}
+use mathlib.Core.Bool.{Bool, true, false, cond}
 use mathlib.Core.List.{List, [], _∷_, _++_, map}
 use lib.ListN.{length, replicate}
 use Rattle.octets.specs.Bytes.{put}
@@ -23,6 +23,11 @@ unfoldable pub turn : Session → Turn
 turn s =
     cond (heldAt (s .window) (s .window .next)) (packet (s .window .next))
     (cond (someHeld (s .window) (s .window .next + s .threshold)) (missing (s .window .next)) waiting)
+
+abbrev pub isWaiting : Turn → Bool
+isWaiting (packet p) = false
+isWaiting (missing p) = false
+isWaiting waiting = true
 
 -- the session then: a packet given is freed, and next grows by one; so it does where next is missing; Waiting changes nothing
 abbrev pub turned : Session → Turn → Session

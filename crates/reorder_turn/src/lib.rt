@@ -1,7 +1,7 @@
 // What serving the reorder buffer answers: a turn, its description, and the refusals of serve and drain (document 01, "The rack").
 use reorder_session::Session;
 ghost use mathlib.Core.Path.{_≡_};
-ghost use Rattle.reorder_turn.specs.Turn.{serveSaid, describedSaid};
+ghost use Rattle.reorder_turn.specs.Turn.{turn, isWaiting, serveSaid, describedSaid};
 ghost use Rattle.reorder_turn.specs.Refusals.{serveRefusal, drainRefusal};
 
 // A refusal with its number; the packet at a position; that a position is missing; or that nothing is to be served yet.
@@ -40,6 +40,17 @@ pub fn describe(answer: ServeAnswer) -> Description
             position: 0,
         },
     }
+}
+
+// Whether a serve that isn't refused would answer Waiting.
+pub fn waits(session: Session) -> bool
+    ensures { λ r. ⌜ r ≡ isWaiting (turn session) ⌝ }
+{
+    let window = session.window;
+    if window::is_next_held(window) {
+        return false;
+    }
+    !window::is_held_ahead(window, session.threshold)
 }
 
 // Refusals 30, 27 and 29 of a serve, or 0.
