@@ -13,7 +13,7 @@ use Rattle.window.specs.Window.{holding}
 use Rattle.reorder_session.specs.declared.Session.{Session}
 use Rattle.reorder_session.specs.Session.{withWindow, slotStart}
 use Rattle.reorder_session.specs.Outcome.{Outcome, outcome}
-use Rattle.reorder_place.specs.Place.{offerSaid}
+use Rattle.reorder_admission.specs.Admission.{offerSaid}
 
 -- holds the packet at p, and answers p: the packet's bytes are p's in the store
 unfoldable pub offerOf : Session → List ℕ → List ℕ → Outcome ℕ

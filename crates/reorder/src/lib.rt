@@ -1,13 +1,13 @@
 // Filling the reorder buffer: the opening, and the offer of a packet (document 01, "The rack").
 use packet::PacketAnswer;
 use position::Anchor;
-use reorder_place::OfferAnswer;
+use reorder_admission::OfferAnswer;
 use reorder_session::Session;
 use window::Window;
 ghost use mathlib.Core.Path.{_≡_};
 ghost use lib.ListN.{length};
 ghost use Rattle.octets.specs.Bytes.{put};
-ghost use Rattle.reorder_place.specs.Place.{said};
+ghost use Rattle.reorder_admission.specs.Admission.{said};
 ghost use Rattle.reorder.specs.Offer.{openOf, offerOf, noSession};
 
 // What an opening or an offer answers, and the session then.
@@ -30,7 +30,7 @@ pub fn offer(session: Session, store: &mut [u8], packet: &[u8]) -> Offered
         × ((r .session ≡ offerOf session (now (store .entry)) (now (packet .entry)) .session)
         × (now (store .exit) ≡ offerOf session (now (store .entry)) (now (packet .entry)) .bytes)) ⌝ }
 {
-    let answer = reorder_place::judge(session, store.len(), packet);
+    let answer = reorder_admission::offer_answer(session, store.len(), packet);
     let OfferAnswer::Held(p) = answer else {
         return Offered { answer, session };
     };

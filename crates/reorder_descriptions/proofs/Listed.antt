@@ -12,7 +12,7 @@ use Rattle.reorder_turn.specs.declared.Description.{Description}
 use Rattle.reorder_turn.specs.Turn.{none}
 use Rattle.reorder_descriptions.specs.Listed.{listed}
 
-listed-append : (a b : List Description) → listed (a ++ b) ≡ listed a ++ listed b
+pub listed-append : (a b : List Description) → listed (a ++ b) ≡ listed a ++ listed b
 listed-append [] b = refl
 listed-append (d ∷ a) b = ap (λ (l : List ℕ). d .kind ∷ d .position ∷ l) (listed-append a b)
 

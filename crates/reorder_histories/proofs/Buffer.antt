@@ -28,7 +28,7 @@ use Rattle.window.proofs.Held.{held-least, freed-held, skipped-held, holding-sa
 use Rattle.reorder_session.specs.declared.Session.{Session}
 use Rattle.reorder_session.specs.Session.{withWindow, slotStart, slot}
 use Rattle.reorder_session.proofs.Whole.{Whole}
-use Rattle.reorder_place.proofs.Taken.{Taken}
+use Rattle.reorder_admission.proofs.Taken.{Taken}
 use Rattle.reorder_turn.specs.Turn.{Turn, packet, missing, waiting, turn, turned}
 use Rattle.reorder_turn.proofs.Turns.{Shows, shows-packet, shows-missing, shows-waiting, shows}
 use Rattle.reorder_laws.specs.Held.{Holds}
@@ -183,10 +183,10 @@ Takes w p b = Taken (w .session) (length (w .store)) b p
 
 module _ (w : State) (p : ℕ) (b : List ℕ) (tk : Takes w p b) where
   pub took-other : (q : ℕ) → (q ≡ p → ⊥) → heldAt (takes w p b .session .window) q ≡ heldAt (w .session .window) q
-  took-other q n = holding-other (w .session .window) p (tk .place .least) (tk .place .near) q n
+  took-other q n = holding-other (w .session .window) p (tk .position .least) (tk .position .near) q n
 
   pub took-same : heldAt (takes w p b .session .window) p ≡ true
-  took-same = holding-same (w .session .window) p (tk .place .least) (tk .place .near)
+  took-same = holding-same (w .session .window) p (tk .position .least) (tk .position .near)
 
   -- its bytes are stored, and the bytes of what was held stay
   pub took-bytes : slot (takes w p b .store) p ≡ b
@@ -214,7 +214,7 @@ module _ (w : State) (p : ℕ) (b : List ℕ) (tk : Takes w p b) where
   pub buffer-taken : Buffer w → Buffer (takes w p b)
   buffer-taken bf =
       record {
-        sound = whole-holding (w .session) (bf .sound) p (tk .place .least) (tk .place .near) (tk .place .most);
+        sound = whole-holding (w .session) (bf .sound) p (tk .position .least) (tk .position .near) (tk .position .most);
         size = put-length (w .store) (slotStart p) b ∙ bf .size;
         settled = λ q l. lift q (bf .settled q l);
         before-next = λ q c m. bf .before-next q c (took-gave q c m);

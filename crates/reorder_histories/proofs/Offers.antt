@@ -22,12 +22,12 @@ use Rattle.window.specs.Window.{heldAt, holding}
 use Rattle.reorder_session.specs.declared.Session.{Session}
 use Rattle.reorder_session.specs.Session.{withWindow, slotStart}
 use Rattle.reorder_session.specs.Outcome.{outcome}
-use Rattle.reorder_place.specs.Place.{placed, positionOf, offerRefusal, offerSaid}
+use Rattle.reorder_admission.specs.Admission.{admitted, positionOf, offerRefusal, offerSaid}
 use Rattle.reorder.specs.Offer.{offerOf}
 use Rattle.reorder_session.proofs.Said.{said-is, refusing-next}
-use Rattle.reorder_place.proofs.Placing.{ahead, fits}
+use Rattle.reorder_admission.proofs.Admitting.{ahead, fits}
 use Rattle.reorder_session.proofs.Whole.{Whole, unbroken}
-use Rattle.reorder_place.proofs.Taken.{taken-offer}
+use Rattle.reorder_admission.proofs.Taken.{taken-offer}
 use Rattle.reorder_histories.specs.Histories.{offer, offerTells, State, step, NotTooFar}
 use Rattle.reorder_histories.proofs.Between.{same-state}
 use Rattle.reorder_histories.proofs.Buffer.{Takes, takes}
@@ -36,9 +36,9 @@ use Rattle.reorder_histories.proofs.Link.{Link, take-b, take-both}
 -- ---- one buffer
 
 -- a free position from next on is taken, or too far ahead
-placed-free : (w : Window) (p : ℕ) → w .next ≤ p → p ≤ 999999 → heldAt w p ≡ false
-    → (answered p ≡ placed w (answered (pos p))) ⊎ (refused 25 ≡ placed w (answered (pos p)))
-placed-free w p lo hi free = go (decLt 31 (p - w .next))
+admitted-free : (w : Window) (p : ℕ) → w .next ≤ p → p ≤ 999999 → heldAt w p ≡ false
+    → (answered p ≡ admitted w (answered (pos p))) ⊎ (refused 25 ≡ admitted w (answered (pos p)))
+admitted-free w p lo hi free = go (decLt 31 (p - w .next))
   where
     top : ltZ (pos 999999) (pos p) ≡ false
     top = omega ints
@@ -46,7 +46,7 @@ placed-free w p lo hi free = go (decLt 31 (p - w .next))
     low : ltZ (pos p) (pos (w .next)) ≡ false
     low = omega ints
 
-    go : Dec (31 < p - w .next) → (answered p ≡ placed w (answered (pos p))) ⊎ (refused 25 ≡ placed w (answered (pos p)))
+    go : Dec (31 < p - w .next) → (answered p ≡ admitted w (answered (pos p))) ⊎ (refused 25 ≡ admitted w (answered (pos p)))
     go (yes l) = inr (ahead w (pos p) top low free l)
     go (no m) = inl (fits w (pos p) top low free (omega arith))
 
@@ -55,15 +55,15 @@ offered-free : (s : Session) (size : ℕ) (x : List ℕ) (p : ℕ) → Whole s �
     → positionOf s (fieldsOf x) ≡ answered (pos p) → s .window .next ≤ p → p ≤ 999999 → heldAt (s .window) p ≡ false
     → (offerSaid s size x ≡ answered p) ⊎ (offerSaid s size x ≡ refused 25)
 unfolding offerRefusal offerSaid
-offered-free s size x p v e read at lo hi free = go (placed-free (s .window) p lo hi free)
+offered-free s size x p v e read at lo hi free = go (admitted-free (s .window) p lo hi free)
   where
     accepted : offerRefusal s size x ≡ 0
     accepted = sym (pass _ 30 _ 0 (ap not (unbroken s v)) (pass-eq size 34560 27 _ 0 e (sym read)))
 
-    says : (y : Said ℕ) → y ≡ placed (s .window) (answered (pos p)) → offerSaid s size x ≡ y
-    says y q = sym (refusing-next _ _ y accepted (q ∙ sym (ap (placed (s .window)) at)))
+    says : (y : Said ℕ) → y ≡ admitted (s .window) (answered (pos p)) → offerSaid s size x ≡ y
+    says y q = sym (refusing-next _ _ y accepted (q ∙ sym (ap (admitted (s .window)) at)))
 
-    go : (answered p ≡ placed (s .window) (answered (pos p))) ⊎ (refused 25 ≡ placed (s .window) (answered (pos p)))
+    go : (answered p ≡ admitted (s .window) (answered (pos p))) ⊎ (refused 25 ≡ admitted (s .window) (answered (pos p)))
         → (offerSaid s size x ≡ answered p) ⊎ (offerSaid s size x ≡ refused 25)
     go (inl q) = inl (says (answered p) q)
     go (inr q) = inr (says (refused 25) q)
@@ -98,7 +98,7 @@ module _ (f : ℕ) (a b : State) (lk : Link f a b) (x : List ℕ) where
   a-takes p t = go (decLt p f)
     where
       go : Dec (p < f) → f ≤ p
-      go (yes l) = absurd (true≢false (sym (lk .due p (t .place .least) l .0) ∙ t .place .free))
+      go (yes l) = absurd (true≢false (sym (lk .due p (t .position .least) l .0) ∙ t .position .free))
       go (no n) = omega arith
 
   -- what a takes b does not refuse
@@ -106,8 +106,8 @@ module _ (f : ℕ) (a b : State) (lk : Link f a b) (x : List ℕ) where
   b-takes p m near t e =
       let l = a-takes p t in
       go
-      (offered-free (b .session) (length (b .store)) x p (lk .buffer-b .sound) (lk .buffer-b .size) (sym same-read ∙ t .read) (sym same-position ∙ t .place .at)
-      (omega (arith, lk .next-b)) (t .place .most) (sym (lk .above p l) ∙ t .place .free))
+      (offered-free (b .session) (length (b .store)) x p (lk .buffer-b .sound) (lk .buffer-b .size) (sym same-read ∙ t .read) (sym same-position ∙ t .position .at)
+      (omega (arith, lk .next-b)) (t .position .most) (sym (lk .above p l) ∙ t .position .free))
     where
       go : (saidBy b x ≡ answered p) ⊎ (saidBy b x ≡ refused 25) → ⊥
       go (inl q) = refused≢answered m p (sym e ∙ q)
@@ -126,12 +126,12 @@ module _ (f : ℕ) (a b : State) (lk : Link f a b) (x : List ℕ) where
       go (no m) =
           absurd
           (by
-          (offered-free (a .session) (length (a .store)) x p (lk .buffer-a .sound) (lk .buffer-a .size) (same-read ∙ t .read) (same-position ∙ t .place .at)
-          (omega (arith, lk .next-a)) (t .place .most) (lk .above p (omega arith) ∙ t .place .free)))
+          (offered-free (a .session) (length (a .store)) x p (lk .buffer-a .sound) (lk .buffer-a .size) (same-read ∙ t .read) (same-position ∙ t .position .at)
+          (omega (arith, lk .next-a)) (t .position .most) (lk .above p (omega arith) ∙ t .position .free)))
 
   same-taken : (p q : ℕ) → Takes a p x → Takes b q x → q ≡ p
   same-taken p q t u =
-      let e : answered (pos p) ≡ answered (pos q) = sym (t .place .at) ∙ same-position ∙ u .place .at in
+      let e : answered (pos p) ≡ answered (pos q) = sym (t .position .at) ∙ same-position ∙ u .position .at in
       cc
 
   after-both : NotTooFar a x → NotTooFar b x → (y z : Said ℕ) → saidBy a x ≡ y → saidBy b x ≡ z → Link f (offeredAs a x y) (offeredAs b x z)

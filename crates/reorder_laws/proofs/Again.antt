@@ -15,7 +15,7 @@ use Rattle.window.specs.Window.{heldAt, skipped}
 use Rattle.window.proofs.Held.{held-above, freed-held, skipped-held}
 use Rattle.reorder_session.specs.declared.Session.{Session}
 use Rattle.reorder_session.specs.Session.{withWindow}
-use Rattle.reorder_place.specs.Place.{placeRefusal, placed, offerRefusal, offerSaid}
+use Rattle.reorder_admission.specs.Admission.{positionRefusal, admitted, offerRefusal, offerSaid}
 use Rattle.reorder.specs.Offer.{offerOf}
 use Rattle.reorder_session.proofs.Said.{leaves, refusing-next, left}
 use Rattle.reorder_session.proofs.Whole.{Whole, unbroken}
@@ -30,9 +30,9 @@ use Rattle.reorder_laws.specs.Room.{TakesAgain, RoomIsUsedAgain}
 use Rattle.reorder_laws.proofs.Kept.{whole-turned, whole-skipped}
 
 -- a free position of the window is taken
-place-free : (w : Window) (p : ℕ) → w .next ≤ p → p ≤ w .next + 31 → p ≤ 999999 → heldAt w p ≡ false → placed w (answered (pos p)) ≡ answered p
-unfolding placed placeRefusal
-place-free w p lo hi top e =
+admit-free : (w : Window) (p : ℕ) → w .next ≤ p → p ≤ w .next + 31 → p ≤ 999999 → heldAt w p ≡ false → admitted w (answered (pos p)) ≡ answered p
+unfolding admitted positionRefusal
+admit-free w p lo hi top e =
     sym
     (say-answered _ p p
     (sym
@@ -50,7 +50,7 @@ takes-again t store p v size e free =
           let a : answered (p + 32) ≡ offerSaid t (length store) b =
           refusing-next _ _ (answered (p + 32))
           (sym (pass _ 30 _ 0 (ap not (unbroken t v)) (pass-eq (length store) 34560 27 _ 0 size (sym read))))
-          (sym (ap (placed (t .window)) at ∙ place-free (t .window) (p + 32) (omega arith) (omega arith) top free)) in
+          (sym (ap (admitted (t .window)) at ∙ admit-free (t .window) (p + 32) (omega arith) (omega arith) top free)) in
           sym (leaves t store _ _ (p + 32) _ _ _ a refl refl .0);
       same-bytes = (let q : (p + 32) % 32 ≡ p % 32 = omega arith in ap (λ (k : ℕ). 1080 * k) q);
     }

@@ -15,10 +15,10 @@ use Rattle.window.specs.Window.{heldAt, holding, freed, skipped}
 use Rattle.window.proofs.Held.{held-least, held-most, freed-held, skipped-held, holding-same, holding-other}
 use Rattle.reorder_session.specs.declared.Session.{Session}
 use Rattle.reorder_session.specs.Session.{withWindow, slotStart, slot}
-use Rattle.reorder_place.specs.Place.{offerSaid}
+use Rattle.reorder_admission.specs.Admission.{offerSaid}
 use Rattle.reorder.specs.Offer.{offerOf, firstWindow, openSaid, openOf}
 use Rattle.reorder_session.proofs.Said.{outcome-cases, left, left-refused}
-use Rattle.reorder_place.proofs.Taken.{Taken, taken-offer}
+use Rattle.reorder_admission.proofs.Taken.{Taken, taken-offer}
 use Rattle.reorder.proofs.Opening.{accepted-opening}
 use Rattle.reorder_turn.specs.Turn.{Turn, packet, missing, waiting, turn, turned, shown, turns, turnedAll, shownAll}
 use Rattle.reorder_turn.specs.Refusals.{serveRefusal, drainRefusal}
@@ -62,7 +62,7 @@ offer-holds s store b p e =
     let t = taken-offer s (length store) b p (l .answer) in
     let a = accepted b (s .«sum_word») (t .read) in
     record {
-      held = ap (λ (u : Session). heldAt (u .window) p) (l .session) ∙ holding-same (s .window) p (t .place .least) (t .place .near);
+      held = ap (λ (u : Session). heldAt (u .window) p) (l .session) ∙ holding-same (s .window) p (t .position .least) (t .position .near);
       bytes = ap (λ (c : List ℕ). slot c p) (l .bytes) ∙ stored store b (s .«sum_word») p (t .store) (a .size);
     }
 
@@ -75,10 +75,10 @@ module _ (s : Session) (store : List ℕ) (p : ℕ) (b : List ℕ) (h : Holds s 
   -- another packet is taken at another position, which has other bytes
   pub beside : (c : List ℕ) (q : ℕ) → Taken s (length store) c q → Holds (withWindow s (holding (s .window) q)) (put store (slotStart q) c) p b
   beside c q t =
-      let n : p ≡ q → ⊥ = λ e. true≢false (sym (h .held) ∙ ap (heldAt (s .window)) e ∙ t .place .free) in
-      let m : q % 32 ≡ p % 32 → ⊥ = λ e. omega (arith, n, least, held-most (s .window) p (h .held), t .place .least, t .place .near) in
+      let n : p ≡ q → ⊥ = λ e. true≢false (sym (h .held) ∙ ap (heldAt (s .window)) e ∙ t .position .free) in
+      let m : q % 32 ≡ p % 32 → ⊥ = λ e. omega (arith, n, least, held-most (s .window) p (h .held), t .position .least, t .position .near) in
       record {
-        held = holding-other (s .window) q (t .place .least) (t .place .near) p n ∙ h .held;
+        held = holding-other (s .window) q (t .position .least) (t .position .near) p n ∙ h .held;
         bytes = piece-other store c (q % 32) (p % 32) (accepted c (s .«sum_word») (t .read) .size) (omega (arith, t .store)) m ∙ h .bytes;
       }
 

@@ -17,11 +17,11 @@ use Rattle.window.specs.Window.{heldAt, holding, freed, skipped}
 use Rattle.window.proofs.Held.{held-least, held-most, freed-held, skipped-held, holding-other}
 use Rattle.reorder_session.specs.declared.Session.{Session}
 use Rattle.reorder_session.specs.Session.{broken, withWindow}
-use Rattle.reorder_place.specs.Place.{offerSaid}
+use Rattle.reorder_admission.specs.Admission.{offerSaid}
 use Rattle.reorder.specs.Offer.{offerOf, firstWindow, opened, openSaid, openOf}
 use Rattle.reorder_session.proofs.Said.{outcome-cases, left}
 use Rattle.reorder_session.proofs.Whole.{Whole, whole, unbroken}
-use Rattle.reorder_place.proofs.Taken.{taken-offer}
+use Rattle.reorder_admission.proofs.Taken.{taken-offer}
 use Rattle.reorder.proofs.Opening.{accepted-opening}
 use Rattle.reorder_turn.specs.Turn.{Turn, packet, missing, waiting, turn, turned, turns, turnedAll, described}
 use Rattle.reorder_turn.specs.Refusals.{serveRefusal, drainRefusal}
@@ -127,7 +127,7 @@ unfolding offerOf
 keeps-offer s store b =
     outcome-cases (λ t c. Keeps s t) (offerSaid s (length store) b) s store _ _ (keeps-none s)
     (λ p e.
-    let t = taken-offer s (length store) b p e .place in
+    let t = taken-offer s (length store) b p e .position in
     keeps-moved s (holding (s .window) p) (omega arith) (λ v. whole-holding s v p (t .least) (t .near) (t .most)))
 
 keeps-serve : (s : Session) (out store : List ℕ) → Keeps s (serveOf s out store .session)

@@ -9,7 +9,7 @@ use Rattle.packet_check.specs.Refusal.{readRefusal}
 use Rattle.packet.specs.Fields.{fieldsOf}
 use Rattle.reorder_session.specs.declared.Session.{Session}
 use Rattle.reorder_session.specs.Session.{slotStart}
-use Rattle.reorder_place.specs.Place.{positionOf}
+use Rattle.reorder_admission.specs.Admission.{positionOf}
 use Rattle.reorder.specs.Offer.{offerOf}
 use Rattle.reorder_turn.specs.Turn.{packet, missing}
 use Rattle.reorder_serve.specs.Serve.{serveOf}

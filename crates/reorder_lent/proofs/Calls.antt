@@ -4,11 +4,11 @@ use mathlib.Core.List.{List, [], _∷_}
 use Prim.Native.Nat.{_+_}
 use mir.Syntax.{w8, w16, w32}
 use Rattle.reorder.specs.declared.Offered.{Offered}
-use Rattle.reorder_place.specs.Place.{said}
+use Rattle.reorder_admission.specs.Admission.{said}
 use Rattle.reorder.specs.Offer.{openOf, offerOf}
 use Rattle.reorder.proofs.Offered as Offered-type
-use Rattle.reorder_place.proofs.OfferAnswer as OfferAnswer-type
-use Rattle.reorder_place.proofs.OfferAnswer.Laws as OfferAnswer-laws
+use Rattle.reorder_admission.proofs.OfferAnswer as OfferAnswer-type
+use Rattle.reorder_admission.proofs.OfferAnswer.Laws as OfferAnswer-laws
 use Rattle.reorder_serve.specs.declared.Served.{Served}
 use Rattle.reorder_serve.specs.declared.Drained.{Drained}
 use Rattle.reorder_pass.specs.declared.Passed.{Passed}

@@ -10,7 +10,7 @@ use Rattle.window.specs.Window.{holding, skipped}
 use Rattle.reorder_session.specs.declared.Session.{Session}
 use Rattle.reorder_session.specs.Outcome.{Outcome, outcome}
 use Rattle.reorder_session.specs.Session.{withWindow, slotStart}
-use Rattle.reorder_place.specs.Place.{offerSaid}
+use Rattle.reorder_admission.specs.Admission.{offerSaid}
 use Rattle.reorder.specs.Offer.{offerOf, opened, openSaid, openOf}
 use Rattle.reorder_session.proofs.Said.{left-refused}
 use Rattle.reorder_turn.specs.Turn.{Turn, turn, turned, shown, turns, turnedAll, shownAll}

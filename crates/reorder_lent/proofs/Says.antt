@@ -2,9 +2,9 @@
 use Prim.Native.Nat.{ℕ}
 use mathlib.Core.Path.{_≡_, refl}
 use Rattle.octets.specs.Refusal.{Said, refused, answered}
-use Rattle.reorder_place.specs.declared.OfferAnswer.{OfferAnswer}
-use Rattle.reorder_place.specs.declared.OfferAnswer.the-variants as Of
-use Rattle.reorder_place.specs.Place.{said}
+use Rattle.reorder_admission.specs.declared.OfferAnswer.{OfferAnswer}
+use Rattle.reorder_admission.specs.declared.OfferAnswer.the-variants as Of
+use Rattle.reorder_admission.specs.Admission.{said}
 use Rattle.reorder_turn.specs.declared.ServeAnswer.{ServeAnswer}
 use Rattle.reorder_turn.specs.declared.ServeAnswer.the-variants as Sv
 use Rattle.reorder_serve.specs.declared.DrainAnswer.{DrainAnswer}

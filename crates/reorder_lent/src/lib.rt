@@ -1,6 +1,6 @@
 // The reorder buffer's calls over one session record, lent to each call and updated there (document 01, "The rack").
+use reorder_admission::OfferAnswer;
 use reorder_pass::PassAnswer;
-use reorder_place::OfferAnswer;
 use reorder_serve::Report;
 use reorder_session::Session;
 use reorder_turn::ServeAnswer;

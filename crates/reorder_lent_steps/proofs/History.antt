@@ -3,8 +3,8 @@ use Prim.Native.Nat.{ℕ}
 use mathlib.Core.Path.{refl}
 use mathlib.Core.List.{List, _++_}
 use Rattle.reorder_session.specs.declared.Session.{Session}
-use Rattle.reorder_place.specs.declared.OfferAnswer.{OfferAnswer}
-use Rattle.reorder_place.specs.Place.{said}
+use Rattle.reorder_admission.specs.declared.OfferAnswer.{OfferAnswer}
+use Rattle.reorder_admission.specs.Admission.{said}
 use Rattle.reorder.specs.Offer.{openOf, noSession}
 use Rattle.reorder_turn.specs.declared.ServeAnswer.{ServeAnswer}
 use Rattle.reorder_pass.specs.declared.PassAnswer.{PassAnswer}

@@ -4,7 +4,7 @@ use mathlib.Core.Path.{_≡_, refl, sym, ap, _∙_}
 use mathlib.Core.List.{List, [], _∷_, _++_}
 use Rattle.octets.specs.Refusal.{Said}
 use Rattle.reorder_session.specs.declared.Session.{Session}
-use Rattle.reorder_place.specs.Place.{said}
+use Rattle.reorder_admission.specs.Admission.{said}
 use Rattle.reorder.specs.Offer.{openOf, offerOf}
 use Rattle.reorder_serve.specs.declared.Report.{Report}
 use Rattle.reorder_turn.specs.Turn.{Turn}

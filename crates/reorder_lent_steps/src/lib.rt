@@ -6,7 +6,7 @@ use reorder_serve::Drained;
 use reorder_serve::Served;
 use reorder_session::Session;
 use window::Window;
-ghost use Rattle.reorder_place.specs.Place.{said};
+ghost use Rattle.reorder_admission.specs.Admission.{said};
 ghost use Rattle.reorder.specs.Offer.{openOf};
 ghost use Rattle.reorder_turn.specs.Turn.{serveSaid};
 ghost use Rattle.reorder_pass.specs.Pass.{passSaid};

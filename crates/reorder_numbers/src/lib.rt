@@ -1,12 +1,12 @@
 // The reorder buffer's calls by value, with their answers as numbers: what the functions for C and Rust stand on.
+use reorder_admission::OfferAnswer;
 use reorder_pass::PassAnswer;
-use reorder_place::OfferAnswer;
 use reorder_serve::DrainAnswer;
 use reorder_session::Session;
 use reorder_turn::Description;
 use reorder_turn::ServeAnswer;
 ghost use mathlib.Core.Path.{_≡_};
-ghost use Rattle.reorder_place.specs.Place.{said};
+ghost use Rattle.reorder_admission.specs.Admission.{said};
 ghost use Rattle.reorder_turn.specs.Turn.{serveSaid};
 ghost use Rattle.reorder_serve.specs.Serve.{drainSaid};
 ghost use Rattle.reorder_pass.specs.Pass.{passSaid};

@@ -1,24 +1,20 @@
 -- What a call in numbers promises, as a step; and a history of such calls, as a run.
-use Prim.Native.Nat.{ℕ, _≤_}
+use Prim.Native.Nat.{ℕ, _*_, _≤_}
 use mathlib.Core.Path.{_≡_, refl, sym, ap, _∙_}
 use mathlib.Core.List.{List, [], _∷_, _++_}
 use native.Mathlib.Omega.{arith}
 use lib.ListN.{length, replicate, length-replicate}
-use Rattle.octets.specs.Refusal.{Said, answered, say}
-use Rattle.octets.proofs.Ladder.{answer-said}
+use Rattle.octets.specs.Refusal.{Said}
 use Rattle.reorder_session.specs.declared.Session.{Session}
-use Rattle.reorder_session.proofs.Said.{left}
 use Rattle.reorder.specs.Offer.{openOf, offerOf}
-use Rattle.reorder_turn.specs.Turn.{Turn, packet, missing, turns, turnedAll, shownAll}
-use Rattle.reorder_turn.specs.Refusals.{drainRefusal}
-use Rattle.reorder_turn.proofs.Ready.{drain-ready}
+use Rattle.reorder_turn.specs.Turn.{Turn, packet, missing}
 use Rattle.reorder_serve.specs.Serve.{serveOf, drainOf, counted}
 use Rattle.reorder_serve.proofs.Count.{drain-count}
 use Rattle.reorder_pass.specs.Pass.{passOf}
-use Rattle.reorder_laws.proofs.Drains.{turns-most}
 use Rattle.reorder_histories.specs.Histories.{Call, offer, serve, drain, pass, offerTells, serveTells, drainTells, passTells, State, start, step, run, Consumer, atStart, atEnd, HigherThresholdLosesNothing}
 use Rattle.reorder_steps.proofs.Steps.{is-state, told-after}
 use Rattle.reorder_lent.proofs.Comes.{open-refusal, offer-refusal, serve-refusal, pass-refusal, pass-bytes}
+use Rattle.reorder_numbers.specs.declared.Count.{Count}
 use Rattle.reorder_numbers.specs.Numbers.{held, served, passed, drained, tabled}
 use Rattle.reorder_numbers.proofs.Said.{says, drains}
 use Rattle.reorder_numbers_laws.specs.NumberedCalls.{positionSaid, turnSaid, turnsSaid, NumberedOpen, NumberedCall, NumberedCalls, NumberedConsumer, NumberedHistoriesLoseNothing}
@@ -39,19 +35,9 @@ serve-said s out store = turn-said _ (serve-numbered s out store)
 pass-said : (s : Session) → positionSaid (passed (passOf s .said)) ≡ passOf s .said
 pass-said s = position-said missing (λ p. refl) _ (pass-numbered s)
 
--- a drain answers at most 32 times
-drain-most : (s : Session) (out store : List ℕ) (budget : ℕ) (ts : List Turn) → drainOf s out store budget .said ≡ answered ts → length ts ≤ 32
-unfolding drainOf
-drain-most s out store budget ts e =
-    let k = left (say (drainRefusal s (length store) (length out) budget) (turns budget s)) s out (turnedAll s) (shownAll 0 store out) ts e in
-    let a = answer-said (drainRefusal s (length store) (length out) budget) (turns budget s) ts (sym (k .answer)) in
-    let r = drain-ready s (length store) (length out) budget (a .0) in
-    let m : length ts ≡ length (turns budget s) = ap length (a .1) in
-    omega (arith, m, r .most, turns-most budget s)
-
-drain-said : (s : Session) (out store : List ℕ) (budget : ℕ) (d : List ℕ) → 64 ≤ length d → let x = drainOf s out store budget .said in
-    turnsSaid (drained (counted x)) (tabled x d) ≡ x
-drain-said s out store budget d room = turns-said _ d (drain-numbered s out store budget) (drain-most s out store budget) room
+drain-said : (s : Session) (out store : List ℕ) (budget : ℕ) (d : List ℕ) → let x = drainOf s out store budget .said in
+    2 * drained (counted x) .count ≤ length d → turnsSaid (drained (counted x)) (tabled x d) ≡ x
+drain-said s out store budget d room = turns-said _ d (drain-numbered s out store budget) room
 
 -- ---- a call is a step, a history a run
 
@@ -71,7 +57,8 @@ is-step w u (serve out) c =
     is-state (c .promised .session) (c .same-store) (told-after w (c .told) (λ i. serveTells (e i) (c .promised .bytes i)))
 is-step w u (drain out budget) c =
     let p = c .promised in
-    let e = (λ i. turnsSaid (p .says .answer i) (p .table i)) ∙ drain-said (w .session) out (w .store) budget (c .before) (c .room) in
+    let n = ap (λ (r : Count). r .count) (p .says .answer) in
+    let e = (λ i. turnsSaid (p .says .answer i) (p .table i)) ∙ drain-said (w .session) out (w .store) budget (c .before) (omega (arith, n, c .room)) in
     is-state (p .says .session) (c .same-store) (told-after w (c .told) (λ i. drainTells (e i) (p .says .bytes i)))
 is-step w u pass c =
     let e = ap positionSaid (c .promised .answer) ∙ pass-said (w .session) in
@@ -86,12 +73,6 @@ comes-to-end : (c : Consumer) (b : List ℕ) (word : ℕ) (u : State) → Number
 comes-to-end c b word u (v, o, m) = are-runs v u (c .calls) m ∙ ap (λ (x : State). run x (c .calls)) (is-start _ _ b _ word v o)
 
 -- ---- the promises can all hold
-
-abbrev zeros : List ℕ
-zeros = replicate 64 0
-
-zeros-room : 64 ≤ length zeros
-zeros-room = omega (arith, length-replicate {A = ℕ} 64 0)
 
 call-holds : (w : State) (c : Call) → NumberedCall w c (step w c)
 unfolding step
@@ -113,15 +94,18 @@ call-holds w (serve out) =
     }
 call-holds w (drain out budget) =
     let o = drainOf (w .session) out (w .store) budget in
+    let n : ℕ = 2 * drained (counted (o .said)) .count in
+    let zeros : List ℕ = replicate n 0 in
+    let room : n ≤ length zeros = omega (arith, length-replicate {A = ℕ} n 0) in
     record {
       answer = drained (counted (o .said));
       output = o .bytes;
       before = zeros;
-      room = zeros-room;
+      room = room;
       after = tabled (o .said) zeros;
       promised = drains (w .session) out (w .store) budget zeros (counted (o .said)) refl refl refl refl (drain-count (w .session) out (w .store) budget) refl;
       same-store = refl;
-      told = ap (λ (x : Said (List Turn)). w .events ++ drainTells x (o .bytes)) (sym (drain-said (w .session) out (w .store) budget zeros zeros-room));
+      told = ap (λ (x : Said (List Turn)). w .events ++ drainTells x (o .bytes)) (sym (drain-said (w .session) out (w .store) budget zeros room));
     }
 call-holds w pass =
     record {
@@ -152,6 +136,10 @@ pub numbered-histories-lose-nothing : HigherThresholdLosesNothing → NumberedHi
 numbered-histories-lose-nothing h =
     record {
       can-hold = can-hold;
+      open-said = λ s store b h w u c. ap positionSaid (c .promised .answer) ∙ open-said s store b h w;
+      offer-said = λ w u b c. ap positionSaid (c .promised .answer) ∙ offer-said (w .session) (w .store) b;
+      serve-said = λ w u out c. ap turnSaid (c .promised .answer) ∙ serve-said (w .session) out (w .store);
+      pass-said = λ w u c. ap positionSaid (c .promised .answer) ∙ pass-said (w .session);
       is-start = is-start;
       is-step = is-step;
       are-runs = are-runs;

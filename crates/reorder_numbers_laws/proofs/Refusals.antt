@@ -13,7 +13,7 @@ use Rattle.position.specs.Position.{position}
 use Rattle.window.specs.declared.Window.{Window}
 use Rattle.reorder_session.specs.declared.Session.{Session}
 use Rattle.reorder_session.specs.Outcome.{outcome, refusing}
-use Rattle.reorder_place.specs.Place.{placeRefusal, placed, positionOf, offerRefusal, offerSaid}
+use Rattle.reorder_admission.specs.Admission.{positionRefusal, admitted, positionOf, offerRefusal, offerSaid}
 use Rattle.reorder.specs.Offer.{offerOf, openRefusal, openSaid, openOf}
 use Rattle.reorder_turn.specs.Turn.{turn, turns}
 use Rattle.reorder_turn.specs.Refusals.{serveRefusal, drainRefusal}
@@ -35,10 +35,10 @@ unfolding refusing
 refusing-numbered zero x h = h
 refusing-numbered (suc k) x h = λ n e z. let i : suc k ≡ n = cc in absurd (omega arith)
 
-placed-numbered : (w : Window) (y : Said ℤ) → Numbered y → Numbered (placed w y)
-unfolding placed
-placed-numbered w (refused m) h = λ n e z. let i : m ≡ n = cc in h m refl (i ∙ z)
-placed-numbered w (answered p) h = say-numbered (placeRefusal w p) (natAbs p)
+admitted-numbered : (w : Window) (y : Said ℤ) → Numbered y → Numbered (admitted w y)
+unfolding admitted
+admitted-numbered w (refused m) h = λ n e z. let i : m ≡ n = cc in h m refl (i ∙ z)
+admitted-numbered w (answered p) h = say-numbered (positionRefusal w p) (natAbs p)
 
 position-numbered : (s : Session) (f : PacketFields) → Numbered (positionOf s f)
 unfolding position
@@ -47,7 +47,7 @@ position-numbered s f = say-numbered _ _
 said-numbered : (s : Session) (size : ℕ) (b : List ℕ) → Numbered (offerSaid s size b)
 unfolding offerSaid
 said-numbered s size b =
-    refusing-numbered (offerRefusal s size b) _ (placed-numbered (s .window) (positionOf s (fieldsOf b)) (position-numbered s (fieldsOf b)))
+    refusing-numbered (offerRefusal s size b) _ (admitted-numbered (s .window) (positionOf s (fieldsOf b)) (position-numbered s (fieldsOf b)))
 
 -- ---- what the calls say
 

@@ -6,8 +6,8 @@ use mathlib.Core.List.{List}
 use Rattle.octets.specs.Bytes.{put}
 use Rattle.octets.specs.Refusal.{answered}
 use Rattle.reorder_session.specs.declared.Session.{Session}
-use Rattle.reorder_place.specs.declared.OfferAnswer.{OfferAnswer}
-use Rattle.reorder_place.specs.Place.{said}
+use Rattle.reorder_admission.specs.declared.OfferAnswer.{OfferAnswer}
+use Rattle.reorder_admission.specs.Admission.{said}
 use Rattle.reorder_turn.specs.declared.ServeAnswer.{ServeAnswer}
 use Rattle.reorder_pass.specs.declared.PassAnswer.{PassAnswer}
 use Rattle.reorder_serve.specs.declared.Report.{Report}

@@ -1,3 +1,3 @@
 pub mod LentCalls
-pub mod Numbered
+pub mod RefusalNumbers
 pub mod NumberedCalls

@@ -1,13 +1,15 @@
 -- The calls in numbers and the lists of demand 3: "Each call gets the session and store that the last one returned or left." What each call promises,
 -- of the numbers that it gave, makes a step of a list.
-use Prim.Native.Nat.{ℕ, zero, suc, _≤_}
+use Prim.Native.Nat.{ℕ, zero, suc, _*_, _≤_}
 use mathlib.Core.Path.{_≡_}
 use mathlib.Core.List.{List, [], _∷_, _++_}
 use lib.ListN.{length}
 use Rattle.octets.specs.Refusal.{Said, say}
 use Rattle.reorder_session.specs.declared.Session.{Session}
-use Rattle.reorder.specs.Offer.{openOf}
+use Rattle.reorder.specs.Offer.{openOf, offerOf}
 use Rattle.reorder_turn.specs.Turn.{Turn}
+use Rattle.reorder_serve.specs.Serve.{serveOf}
+use Rattle.reorder_pass.specs.Pass.{passOf}
 use Rattle.reorder_histories.specs.Histories.{
   Call,
   offer,
@@ -34,7 +36,7 @@ use Rattle.reorder_numbers.specs.Numbers.{Opens, Offers, Serves, Drains, Passes
 
 -- ---- what the numbers say
 
--- kind and position as a drain describes them: 1 a packet, 2 a missing position, 0 Waiting
+-- kind and position as a drain describes them: 1 a packet, 2 a missing position; another kind is read as Waiting, which tells nothing
 abbrev pub turnBy : ℕ → ℕ → Turn
 turnBy kind position = describedBy (record { kind = kind; position = position })
 
@@ -76,12 +78,12 @@ pub record NumberedServe (w : State) (out : List ℕ) (u : State) : Type 0 where
   pub same-store : u .store ≡ w .store
   pub told : u .events ≡ w .events ++ serveTells (turnSaid answer) output
 
--- a drain that is lent room for all its descriptions, and left the numbers `after` where `before` stood
+-- a drain that is lent room for the answers that it counts, which are none where it is refused, and left the numbers `after` where `before` stood
 pub record NumberedDrain (w : State) (out : List ℕ) (budget : ℕ) (u : State) : Type 0 where
   pub answer : Count
   pub output : List ℕ
   pub before : List ℕ
-  pub room : 64 ≤ length before
+  pub room : 2 * answer .count ≤ length before
   pub after : List ℕ
   pub promised : Drains (w .session) out (w .store) budget before answer (u .session) output after
   pub same-store : u .store ≡ w .store
@@ -113,9 +115,17 @@ NumberedConsumer c b word u = (v : State) × NumberedOpen (c .before) (c .store)
 pub record NumberedHistoriesLoseNothing : Type 0 where
   -- the promises of any opening and of any list of calls can all hold
   pub can-hold : (c : Consumer) (b : List ℕ) (word : ℕ) → NumberedConsumer c b word (atEnd c b word)
+  -- what the numbers say is what the call says, so that what `OpenedAlike` supposes (accepted, not 25, Waiting, a refused pass) stands in them
+  pub open-said : (s : Session) (store b : List ℕ) (threshold word : ℕ) (u : State) (c : NumberedOpen s store b threshold word u)
+      → positionSaid (c .answer) ≡ openOf s store b threshold word .said
+  pub offer-said : (w u : State) (b : List ℕ) (c : NumberedOffer w b u) → positionSaid (c .answer) ≡ offerOf (w .session) (w .store) b .said
+  pub serve-said : (w u : State) (out : List ℕ) (c : NumberedServe w out u) → turnSaid (c .answer) ≡ serveOf (w .session) out (w .store) .said
+  pub pass-said : (w u : State) (c : NumberedPass w u) → positionSaid (c .answer) ≡ passOf (w .session) .said
+  -- an opening is the start, and each call a step, of the lists of demand 3
   pub is-start : (s : Session) (store b : List ℕ) (threshold word : ℕ) (u : State) → NumberedOpen s store b threshold word u
       → u ≡ start (openOf s store b threshold word) b
   pub is-step : (w u : State) (c : Call) → NumberedCall w c u → u ≡ step w c
   pub are-runs : (w u : State) (cs : List Call) → NumberedCalls w cs u → u ≡ run w cs
+  -- demand 3 for what two histories of these calls came to
   pub lose-nothing : (less more : Consumer) (b : List ℕ) (word : ℕ) (u v : State) → OpenedAlike less more b word
       → NumberedConsumer less b word u → NumberedConsumer more b word v → NothingLost u v

@@ -1,6 +1,6 @@
 // The theorems of the calls in numbers: they are the calls over a lent session, no refusal is 0, and demand 3.
 ghost use Rattle.reorder_numbers_laws.specs.LentCalls.{AreLentCalls};
-ghost use Rattle.reorder_numbers_laws.specs.Numbered.{RefusalsHaveNumbers};
+ghost use Rattle.reorder_numbers_laws.specs.RefusalNumbers.{RefusalsHaveNumbers};
 ghost use Rattle.reorder_numbers_laws.specs.NumberedCalls.{NumberedHistoriesLoseNothing};
 
 // The calls in numbers are the calls over a lent session.

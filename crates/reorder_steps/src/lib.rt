@@ -5,7 +5,7 @@ use reorder_serve::Drained;
 use reorder_serve::Served;
 use reorder_session::Session;
 ghost use mathlib.Core.Path.{_≡_};
-ghost use Rattle.reorder_place.specs.Place.{said};
+ghost use Rattle.reorder_admission.specs.Admission.{said};
 ghost use Rattle.reorder.specs.Offer.{openOf, offerOf, noSession};
 ghost use Rattle.reorder_turn.specs.Turn.{serveSaid};
 ghost use Rattle.reorder_serve.specs.Serve.{drainSaid, serveOf, drainOf, counted, descriptions};

@@ -31,6 +31,6 @@ freed w = record { next = w .next + 1; marks = clearBit (w .marks) (w .next % 32
 abbrev pub skipped : Window → Window
 skipped w = record { next = w .next + 1; marks = w .marks }
 
--- r is the word of marks turned, so that its bit j is that of position next + j
-abbrev pub Turned : Window → ℕ → Type 0
-Turned w r = (j : ℕ) → j < 32 → bit r j ≡ bit (w .marks) ((w .next + j) % 32)
+-- r is the word of marks rotated, so that its bit j is that of position next + j
+abbrev pub Rotated : Window → ℕ → Type 0
+Rotated w r = (j : ℕ) → j < 32 → bit r j ≡ bit (w .marks) ((w .next + j) % 32)

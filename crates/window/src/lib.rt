@@ -2,7 +2,7 @@
 ghost use mathlib.Core.Path.{_≡_};
 ghost use Prim.Native.Nat.{_+_, _%_, _^_};
 ghost use Rattle.numbers.specs.Bit.{clearBit};
-ghost use Rattle.window.specs.Window.{heldAt, someHeld, holding, Turned};
+ghost use Rattle.window.specs.Window.{heldAt, someHeld, holding, Rotated};
 
 // The next position to serve, and the marks: bit p mod 32 for position p.
 #[repr(C)]
@@ -31,9 +31,9 @@ pub fn is_held(window: Window, p: u32) -> bool
     (window.marks >> (p % 32)) & 1 == 1
 }
 
-// The marks turned, so that bit j is that of position next + j.
-fn turned(window: Window) -> u32
-    ensures { λ r. ⌜ Turned window r ⌝ }
+// The marks rotated, so that bit j is that of position next + j.
+fn rotated(window: Window) -> u32
+    ensures { λ r. ⌜ Rotated window r ⌝ }
 {
     let k = window.next % 32;
     (window.marks >> k) | (window.marks << ((32 - k) % 32))
@@ -43,7 +43,7 @@ fn turned(window: Window) -> u32
 pub fn is_next_held(window: Window) -> bool
     ensures { λ r. ⌜ r ≡ heldAt window (window .next) ⌝ }
 {
-    turned(window) & 1 == 1
+    rotated(window) & 1 == 1
 }
 
 // Whether a position at least so far ahead of next is held: the furthest held has the fewest zeros before it.
@@ -53,7 +53,7 @@ pub fn is_held_ahead(window: Window, least: u32) -> bool
     if 31 < least {
         return false;
     }
-    u32::leading_zeros(turned(window)) + least <= 31
+    u32::leading_zeros(rotated(window)) + least <= 31
 }
 
 // The window with position p held too.

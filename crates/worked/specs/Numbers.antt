@@ -26,7 +26,7 @@ use Rattle.position.specs.declared.Anchor.{Anchor}
 use Rattle.position.specs.Position.{position, publishedTolerance}
 use Rattle.window.specs.Window.{holding}
 use Rattle.reorder_session.specs.declared.Session.{Session}
-use Rattle.reorder_place.specs.Place.{offerSaid}
+use Rattle.reorder_admission.specs.Admission.{offerSaid}
 use Rattle.reorder.specs.Offer.{firstWindow}
 use Rattle.reorder_turn.specs.Turn.{missing, waiting, turn}
 use Rattle.reorder_turn.specs.Refusals.{serveRefusal}

@@ -16,10 +16,10 @@ use Rattle.window.proofs.Held.{first-held, held-least, holding-other}
 use Rattle.reorder_session.specs.declared.Session.{Session}
 use Rattle.reorder_session.specs.Session.{withWindow, slot}
 use Rattle.reorder_session.specs.Outcome.{Outcome}
-use Rattle.reorder_place.specs.Place.{offerSaid}
+use Rattle.reorder_admission.specs.Admission.{offerSaid}
 use Rattle.reorder.specs.Offer.{offerOf, firstWindow, opened, openSaid, openOf}
 use Rattle.reorder_session.proofs.Said.{said-is, left, left-refused}
-use Rattle.reorder_place.proofs.Taken.{taken-offer}
+use Rattle.reorder_admission.proofs.Taken.{taken-offer}
 use Rattle.reorder_turn.specs.Turn.{Turn, packet, waiting, turn, turned, shown, turns, turnedAll}
 use Rattle.reorder_turn.specs.Refusals.{serveRefusal, drainRefusal}
 use Rattle.reorder_serve.specs.Serve.{serveOf, drainOf}
@@ -201,7 +201,7 @@ module _ {w : State} {s : Session} {es : List Event} (k : Stands w s es) where
           ∙ ap packetAt (sym i)
       there q h (no n) =
           let t = taken-offer s 34560 (packetAt p) p e in
-          let f : heldAt (s .window) q ≡ true = sym (holding-other (s .window) p (t .place .least) (t .place .near) q n) ∙ h in
+          let f : heldAt (s .window) q ≡ true = sym (holding-other (s .window) p (t .position .least) (t .position .near) q n) ∙ h in
           bytes-come-out .offer-keeps (w .session) (w .store) q (packetAt q) (packetAt p)
           (record { held = ap (λ (u : Session). heldAt (u .window) q) (k .session) ∙ f; bytes = k .bytes q f }) .bytes
 

@@ -1,17 +1,17 @@
--- What `judge` says decides what is left.
+-- What `offer_answer` says decides what is left.
 use mathlib.Core.Path.{sym, ap, _∙_}
 use Rattle.reorder_session.specs.Session.{withWindow}
-use Rattle.reorder_place.specs.Place.{said}
+use Rattle.reorder_admission.specs.Admission.{said}
 use Rattle.reorder.specs.Offer.{offerOf}
 use Rattle.packet_check.proofs.Accept.{accepted}
-use Rattle.reorder_place.proofs.Taken.{taken-offer}
+use Rattle.reorder_admission.proofs.Taken.{taken-offer}
 use Rattle.reorder_session.proofs.Said.{stays, leaves}
 use borrow.Author.Needs.{needs}
 use Rattle.reorder.proofs.offer.Statement.{statement}
 use Rattle.reorder.proofs.offer.Tie as tie
 
-judge-requires : tie.Need-judge-requires
-judge-requires c κs = search needs
+offer-answer-requires : tie.Need-offer-answer-requires
+offer-answer-requires c κs = search needs
 
 enum-known-answer : tie.Need-enum-known-answer
 enum-known-answer c = search needs
@@ -22,7 +22,7 @@ enum-told c = search needs
 returns : tie.Need-returns
 unfolding offerOf
 returns c =
-    let j = c .before .before .judge .ensures in
+    let j = c .before .before .offer-answer .ensures in
     let e = ap said (sym (c .enum-told .given .1)) ∙ j in
     let k = stays _ _ _ _ _ _ e in
     (ap said (c .enum-told .given .1) ∙ k .0, k .1)
@@ -35,7 +35,7 @@ mul-put-packet c = search needs
 
 put-packet-requires : tie.Need-put-packet-requires
 put-packet-requires c κs =
-    let e = ap said (sym (c .before .before .answer .given .1)) ∙ c .before .before .before .before .judge .ensures in
+    let e = ap said (sym (c .before .before .answer .given .1)) ∙ c .before .before .before .before .offer-answer .ensures in
     accepted _ _ (taken-offer _ _ _ _ (sym e) .read) .size
 
 hold-requires : tie.Need-hold-requires
@@ -52,7 +52,7 @@ unfolding offerOf
 returns-2 c =
     let w = c .before .before .before .before in
     let a = w .before .before .before in
-    let e = ap said (sym (a .answer .given .1)) ∙ a .before .before .judge .ensures in
+    let e = ap said (sym (a .answer .given .1)) ∙ a .before .before .offer-answer .ensures in
     let s = a .before .before .before .before .before .args .session in
     leaves _ _ _ _ _ _ _ _ e (c .with-window .ensures ∙ ap (withWindow s) (c .before .hold .ensures)) (w .put-packet .ensures)
 
@@ -60,7 +60,7 @@ pub offer-spec : {M : Type 1} → statement M
 offer-spec =
     tie.close
     (tie.spec
-    judge-requires
+    offer-answer-requires
     enum-known-answer
     enum-told
     returns

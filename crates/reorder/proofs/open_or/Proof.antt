@@ -14,7 +14,7 @@ use Rattle.packet.specs.Fields.{fieldsOf}
 use Rattle.packet.specs.Read.{said}
 use Rattle.reorder.specs.Offer.{opened, openRefusal, openSaid, openOf}
 use Rattle.reorder_session.proofs.Said.{stays, leaves}
-use Rattle.reorder_place.proofs.Handed.{handed-on}
+use Rattle.reorder_admission.proofs.Handed.{handed-on}
 use borrow.Author.Needs.{needs}
 use Rattle.reorder.proofs.open_or.Statement.{statement}
 use Rattle.reorder.proofs.open_or.Tie as tie

@@ -1,7 +1,7 @@
 -- The numbers of each case.
 use mathlib.Core.Path.{sym, ap}
-use Rattle.reorder_place.specs.declared.OfferAnswer.{OfferAnswer}
-use Rattle.reorder_place.specs.Place.{said}
+use Rattle.reorder_admission.specs.declared.OfferAnswer.{OfferAnswer}
+use Rattle.reorder_admission.specs.Admission.{said}
 use Rattle.reorder_numbers.specs.Numbers.{held}
 use borrow.Author.Needs.{needs}
 use Rattle.reorder_numbers.proofs.held_numbers.Statement.{statement}

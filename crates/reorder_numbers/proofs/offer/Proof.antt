@@ -1,7 +1,7 @@
 -- What `offer` promises, in numbers.
 use denote.Ref.{now}
 use lib.ListN.{length}
-use Rattle.reorder_place.specs.Place.{said, offerSaid}
+use Rattle.reorder_admission.specs.Admission.{said, offerSaid}
 use Rattle.reorder.specs.Offer.{offerOf}
 use Rattle.reorder_session.proofs.Said.{left-refused}
 use Rattle.reorder_turn.specs.Turn.{packet}

@@ -1,7 +1,7 @@
 -- What `open-or` promises, in numbers.
 use denote.Ref.{now}
 use lib.ListN.{length}
-use Rattle.reorder_place.specs.Place.{said}
+use Rattle.reorder_admission.specs.Admission.{said}
 use Rattle.reorder.specs.Offer.{openSaid, openOf}
 use Rattle.reorder_session.proofs.Said.{left-refused}
 use Rattle.reorder_turn.specs.Turn.{packet}

@@ -1,4 +1,4 @@
--- By the leading zeros of the turned word; nothing is held from next + 32 on.
+-- By the leading zeros of the rotated word; nothing is held from next + 32 on.
 use mathlib.Core.Path.{sym}
 use native.Mathlib.Omega.{arith}
 use lib.Count.{leading-le}
@@ -11,14 +11,14 @@ use Rattle.window.proofs.is_held_ahead.Tie as tie
 returns : tie.Need-returns
 returns c = sym (none-held (c .before .args .window) _ (λ p e l. omega (arith, held-most (c .before .args .window) p e)))
 
-turned-requires : tie.Need-turned-requires
-turned-requires c κs = search needs
+rotated-requires : tie.Need-rotated-requires
+rotated-requires c κs = search needs
 
 add-result : tie.Need-add-result
-add-result c = omega (arith, leading-le 32 (c .turned .result))
+add-result c = omega (arith, leading-le 32 (c .rotated .result))
 
 returns-2 : tie.Need-returns-2
-returns-2 c = by-leading-zeros _ _ (c .turned .ok) (c .turned .ensures) _ (omega arith)
+returns-2 c = by-leading-zeros _ _ (c .rotated .ok) (c .rotated .ensures) _ (omega arith)
 
 pub is-held-ahead-spec : {M : Type 1} → statement M
-is-held-ahead-spec = tie.close (tie.spec returns turned-requires add-result returns-2)
+is-held-ahead-spec = tie.close (tie.spec returns rotated-requires add-result returns-2)

@@ -16,7 +16,7 @@ use Rattle.position.specs.Position.{position}
 use Rattle.window.specs.Window.{heldAt, someAmong, someHeld}
 use Rattle.reorder_session.specs.Session.{pastEnd, broken}
 use Rattle.reorder_session.specs.Outcome.{refusing}
-use Rattle.reorder_place.specs.Place.{placeRefusal, placed, offerRefusal, offerSaid}
+use Rattle.reorder_admission.specs.Admission.{positionRefusal, admitted, offerRefusal, offerSaid}
 use Rattle.reorder_turn.specs.Turn.{turn}
 use Rattle.reorder_turn.specs.Refusals.{serveRefusal}
 use Rattle.worked.specs.Numbers.{counted, timedPacket, zeroPacket, zeroRecord, qualityRecord, timeRecord}
@@ -24,7 +24,7 @@ use Rattle.worked.proofs.worked_numbers.Statement.{statement}
 use Rattle.worked.proofs.worked_numbers.Tie as tie
 
 returns : tie.Need-returns
-unfolding put refuse_unless_else_ _then_ wordSum zeroed packetSum firstBin headerRefusal readRefusal histogramOf unsummed packetOf fieldsOf counted timedPacket zeroPacket zeroRecord qualityRecord timeRecord bitsSet qualityOf timeOf recordRefusal say position heldAt someAmong someHeld pastEnd broken refusing placeRefusal placed offerRefusal offerSaid turn serveRefusal
+unfolding put refuse_unless_else_ _then_ wordSum zeroed packetSum firstBin headerRefusal readRefusal histogramOf unsummed packetOf fieldsOf counted timedPacket zeroPacket zeroRecord qualityRecord timeRecord bitsSet qualityOf timeOf recordRefusal say position heldAt someAmong someHeld pastEnd broken refusing positionRefusal admitted offerRefusal offerSaid turn serveRefusal
 returns c =
     record {
       sum-of-count-0 = refl;

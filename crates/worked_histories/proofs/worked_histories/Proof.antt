@@ -17,7 +17,7 @@ use Rattle.window.specs.Window.{heldAt, someAmong, someHeld}
 use Rattle.reorder_session.specs.declared.Session.{Session}
 use Rattle.reorder_session.specs.Session.{pastEnd, broken}
 use Rattle.reorder_session.specs.Outcome.{refusing}
-use Rattle.reorder_place.specs.Place.{placeRefusal, placed, offerRefusal, offerSaid}
+use Rattle.reorder_admission.specs.Admission.{positionRefusal, admitted, offerRefusal, offerSaid}
 use Rattle.reorder.specs.Offer.{opened, openRefusal, openSaid}
 use Rattle.reorder_turn.specs.Turn.{packet, missing, waiting, turn, turns, turnedAll}
 use Rattle.reorder_turn.specs.Refusals.{serveRefusal, drainRefusal}
@@ -57,7 +57,7 @@ record Says : Type 0 where
   offer-none-to-2 : offerSaid (session 2 1 4) 34560 noPacket ≡ refused 1
 
 says : Says
-unfolding put refuse_unless_else_ _then_ say wordSum zeroed packetSum headerRefusal readRefusal histogramOf unsummed packetOf counted timedPacket fieldsOf position heldAt someAmong someHeld pastEnd broken refusing placeRefusal placed offerRefusal offerSaid openRefusal openSaid
+unfolding put refuse_unless_else_ _then_ say wordSum zeroed packetSum headerRefusal readRefusal histogramOf unsummed packetOf counted timedPacket fieldsOf position heldAt someAmong someHeld pastEnd broken refusing positionRefusal admitted offerRefusal offerSaid openRefusal openSaid
 says =
     record {
       opens-1 = refl;

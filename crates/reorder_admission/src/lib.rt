@@ -5,7 +5,7 @@ use reorder_session::Session;
 use window::Window;
 ghost use mathlib.Core.Path.{_≡_};
 ghost use Rattle.position.specs.Position as at;
-ghost use Rattle.reorder_place.specs.Place.{said, placed, offerSaid};
+ghost use Rattle.reorder_admission.specs.Admission.{said, admitted, offerSaid};
 
 // A refusal with its number, or the position that the packet is held at. An opening holds its packet at position 0.
 pub enum OfferAnswer {
@@ -14,8 +14,8 @@ pub enum OfferAnswer {
 }
 
 // Where a packet is held, by its position: refusals 21 to 25, or the position.
-fn place(window: Window, located: Located) -> OfferAnswer
-    ensures { λ r. ⌜ said r ≡ placed window (at.said located) ⌝ }
+fn position_answer(window: Window, located: Located) -> OfferAnswer
+    ensures { λ r. ⌜ said r ≡ admitted window (at.said located) ⌝ }
 {
     let Located::At(p) = located else {
         return OfferAnswer::Refused(21);
@@ -37,7 +37,7 @@ fn place(window: Window, located: Located) -> OfferAnswer
 }
 
 // What an offer answers.
-pub fn judge(session: Session, store_size: usize, packet: &[u8]) -> OfferAnswer
+pub fn offer_answer(session: Session, store_size: usize, packet: &[u8]) -> OfferAnswer
     ensures { λ r. ⌜ said r ≡ offerSaid session «store_size» (now (packet .entry)) ⌝ }
 {
     if reorder_session::is_broken(session) {
@@ -56,5 +56,5 @@ pub fn judge(session: Session, store_size: usize, packet: &[u8]) -> OfferAnswer
         fields.coarse_time,
         position::TOLERANCE,
     );
-    place(session.window, located)
+    position_answer(session.window, located)
 }

@@ -1,12 +1,12 @@
--- Each bit of the turned word.
+-- Each bit of the rotated word.
 use Prim.Native.Nat.{_+_, _%_}
 use mathlib.Core.Path.{_≡_, ap, _∙_}
 use native.Mathlib.Omega.{arith}
 use Rattle.numbers.specs.Bit.{bit}
 use Rattle.window.proofs.Furthest.{rotated-bit}
 use borrow.Author.Needs.{needs}
-use Rattle.window.proofs.turned.Statement.{statement}
-use Rattle.window.proofs.turned.Tie as tie
+use Rattle.window.proofs.rotated.Statement.{statement}
+use Rattle.window.proofs.rotated.Tie as tie
 
 shr-result : tie.Need-shr-result
 shr-result c = search needs
@@ -24,5 +24,5 @@ returns c =
     let e : (w .next % 32 + j) % 32 ≡ (w .next + j) % 32 = omega arith in
     rotated-bit (w .marks) (w .next % 32) j (c .struct-known3 .given .1 .0 .fits) (omega arith) h ∙ ap (bit (w .marks)) e
 
-pub turned-spec : {M : Type 1} → statement M
-turned-spec = tie.close (tie.spec shr-result sub-result shl-result returns)
+pub rotated-spec : {M : Type 1} → statement M
+rotated-spec = tie.close (tie.spec shr-result sub-result shl-result returns)

@@ -15,8 +15,8 @@ use Rattle.window.specs.Window.{heldAt}
 use Rattle.reorder_session.specs.declared.Session.{Session}
 use Rattle.reorder_session.specs.Session.{broken}
 use Rattle.reorder_session.specs.Outcome.{refusing}
-use Rattle.reorder_place.specs.declared.OfferAnswer.{OfferAnswer}
-use Rattle.reorder_place.specs.declared.OfferAnswer.the-variants.{Refused, Held}
+use Rattle.reorder_admission.specs.declared.OfferAnswer.{OfferAnswer}
+use Rattle.reorder_admission.specs.declared.OfferAnswer.the-variants.{Refused, Held}
 
 -- the number, or the position, that each case of the answer stands for
 abbrev pub said : OfferAnswer → Said ℕ
@@ -24,8 +24,8 @@ said (Refused n) = refused n
 said (Held p) = answered p
 
 -- 22: position over 999,999. 23, 24, 25: position below next; already held; over next + 31
-unfoldable pub placeRefusal : Window → ℤ → ℕ
-placeRefusal w p =
+unfoldable pub positionRefusal : Window → ℤ → ℕ
+positionRefusal w p =
     refuse 22 unless leZ p (pos 999999) else
     refuse 23 unless leZ (pos (w .next)) p else
     refuse 24 unless not (heldAt w (natAbs p)) else
@@ -33,9 +33,9 @@ placeRefusal w p =
     0
 
 -- where a packet goes whose position is worked out, or for which none fits (21)
-unfoldable pub placed : Window → Said ℤ → Said ℕ
-placed w (refused n) = refused n
-placed w (answered p) = say (placeRefusal w p) (natAbs p)
+unfoldable pub admitted : Window → Said ℤ → Said ℕ
+admitted w (refused n) = refused n
+admitted w (answered p) = say (positionRefusal w p) (natAbs p)
 
 -- the position of a packet of these fields: its clock is the coarse time
 abbrev pub positionOf : Session → PacketFields → Said ℤ
@@ -50,4 +50,4 @@ offerRefusal s size b =
 
 -- then 21 to 25, else the position
 unfoldable pub offerSaid : Session → ℕ → List ℕ → Said ℕ
-offerSaid s size b = refusing (offerRefusal s size b) (placed (s .window) (positionOf s (fieldsOf b)))
+offerSaid s size b = refusing (offerRefusal s size b) (admitted (s .window) (positionOf s (fieldsOf b)))

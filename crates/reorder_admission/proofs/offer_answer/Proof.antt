@@ -1,4 +1,4 @@
--- The ladder of refusals, and past it the place.
+-- The ladder of refusals, and past it the position.
 use Prim.Native.Nat.{ℕ}
 use mathlib.Core.Path.{_≡_, sym, ap, _∙_}
 use mathlib.Core.Bool.{true, not}
@@ -11,12 +11,12 @@ use Rattle.packet.specs.declared.PacketAnswer.{PacketAnswer}
 use Rattle.packet.specs.Fields.{fieldsOf}
 use Rattle.packet.specs.Read.{said}
 use Rattle.reorder_session.specs.Session.{broken}
-use Rattle.reorder_place.specs.Place.{placed, positionOf, offerRefusal, offerSaid}
+use Rattle.reorder_admission.specs.Admission.{admitted, positionOf, offerRefusal, offerSaid}
 use Rattle.reorder_session.proofs.Said.{refusing-now, refusing-next}
-use Rattle.reorder_place.proofs.Handed.{handed-on}
+use Rattle.reorder_admission.proofs.Handed.{handed-on}
 use borrow.Author.Needs.{needs}
-use Rattle.reorder_place.proofs.judge.Statement.{statement}
-use Rattle.reorder_place.proofs.judge.Tie as tie
+use Rattle.reorder_admission.proofs.offer_answer.Statement.{statement}
+use Rattle.reorder_admission.proofs.offer_answer.Tie as tie
 
 -- the session isn't broken, and the store has its size: the ladder goes on with the reader's number
 whole : (c : tie.Else1) → not (broken (c .before .before .before .args .session)) ≡ true
@@ -65,8 +65,8 @@ returns-3 c =
 locate-requires : tie.Need-locate-requires
 locate-requires c κs = search needs
 
-place-requires : tie.Need-place-requires
-place-requires c κs = search needs
+position-answer-requires : tie.Need-position-answer-requires
+position-answer-requires c κs = search needs
 
 returns-4 : tie.Need-returns-4
 unfolding offerRefusal offerSaid
@@ -77,10 +77,10 @@ returns-4 c =
     let b = now (a .before .before .before .before .before .before .args .packet) in
     let r = answer-said (readRefusal b (s .«sum_word»)) (fieldsOf b) _ (ap said (sym t) ∙ a .read-answer .ensures) in
     refusing-next _ _ _ (sym (ready (a .before .before) 0 (sym (r .0))))
-    (c .place .ensures ∙ ap (placed (s .window)) (c .before .locate .ensures ∙ ap (positionOf s) (r .1)))
+    (c .position-answer .ensures ∙ ap (admitted (s .window)) (c .before .locate .ensures ∙ ap (positionOf s) (r .1)))
 
-pub judge-spec : {M : Type 1} → statement M
-judge-spec =
+pub offer-answer-spec : {M : Type 1} → statement M
+offer-answer-spec =
     tie.close
     (tie.spec
     is-broken-requires
@@ -93,5 +93,5 @@ judge-spec =
     refusal-number-requires
     returns-3
     locate-requires
-    place-requires
+    position-answer-requires
     returns-4)

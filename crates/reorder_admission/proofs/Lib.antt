@@ -1,3 +1,3 @@
 pub mod Handed
-pub mod Placing
+pub mod Admitting
 pub mod Taken

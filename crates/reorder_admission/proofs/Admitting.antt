@@ -14,7 +14,7 @@ use Rattle.octets.specs.Refusal.{refused, answered}
 use Rattle.octets.proofs.Ladder.{pass, fail, say-refused, say-answered}
 use Rattle.window.specs.declared.Window.{Window}
 use Rattle.window.specs.Window.{heldAt}
-use Rattle.reorder_place.specs.Place.{placeRefusal, placed}
+use Rattle.reorder_admission.specs.Admission.{positionRefusal, admitted}
 
 -- a position from next on, and at most 999,999, is a number
 number : (n : ℕ) (z : ℤ) → ltZ (pos 999999) z ≡ false → ltZ z (pos n) ≡ false → (z ≡ pos (natAbs z)) × ((n ≤ natAbs z) × (natAbs z ≤ 999999))
@@ -26,8 +26,8 @@ castable (pos m) e h = (tt, omega arith)
 castable (negsuc m) e h = absurd (omega (ints, e))
 
 module _ (w : Window) (z : ℤ) where
-  pub beyond : ltZ (pos 999999) z ≡ true → refused 22 ≡ placed w (answered z)
-  unfolding placed placeRefusal
+  pub beyond : ltZ (pos 999999) z ≡ true → refused 22 ≡ admitted w (answered z)
+  unfolding admitted positionRefusal
   beyond h =
       let e : leZ z (pos 999999) ≡ false = omega ints in
       say-refused 22 _ _ (fail (leZ z (pos 999999)) 22 _ e) (λ q. omega arith)
@@ -36,8 +36,8 @@ module _ (w : Window) (z : ℤ) where
     served : leZ z (pos 999999) ≡ true
     served = omega ints
 
-    pub below : ltZ z (pos (w .next)) ≡ true → refused 23 ≡ placed w (answered z)
-    unfolding placed placeRefusal
+    pub below : ltZ z (pos (w .next)) ≡ true → refused 23 ≡ admitted w (answered z)
+    unfolding admitted positionRefusal
     below h =
         let e : leZ (pos (w .next)) z ≡ false = omega ints in
         say-refused 23 _ _ (pass _ 22 _ 23 served (fail (leZ (pos (w .next)) z) 23 _ e)) (λ q. omega arith)
@@ -55,14 +55,14 @@ module _ (w : Window) (z : ℤ) where
       within-window : leZ z (pos (w .next + 31)) ≡ leb (natAbs z) (w .next + 31)
       within-window = ap (λ (x : ℤ). leZ x (pos (w .next + 31))) (number (w .next) z top low .0)
 
-      pub taken : heldAt w (natAbs z) ≡ true → refused 24 ≡ placed w (answered z)
-      unfolding placed placeRefusal
+      pub taken : heldAt w (natAbs z) ≡ true → refused 24 ≡ admitted w (answered z)
+      unfolding admitted positionRefusal
       taken h =
           say-refused 24 _ _ (pass _ 22 _ 24 served (pass _ 23 _ 24 reached (fail (not (heldAt w (natAbs z))) 24 _ (ap not h)))) (λ q. omega arith)
 
       module _ (free : heldAt w (natAbs z) ≡ false) where
-        pub ahead : 31 < natAbs z - w .next → refused 25 ≡ placed w (answered z)
-        unfolding placed placeRefusal
+        pub ahead : 31 < natAbs z - w .next → refused 25 ≡ admitted w (answered z)
+        unfolding admitted positionRefusal
         ahead h =
             say-refused 25 _ _
             (pass _ 22 _ 25 served
@@ -70,8 +70,8 @@ module _ (w : Window) (z : ℤ) where
             (pass _ 24 _ 25 (ap not free) (fail _ 25 0 (within-window ∙ lt-leb (natAbs z) (w .next + 31) (omega arith))))))
             (λ q. omega arith)
 
-        pub fits : natAbs z - w .next ≤ 31 → answered (natAbs z) ≡ placed w (answered z)
-        unfolding placed placeRefusal
+        pub fits : natAbs z - w .next ≤ 31 → answered (natAbs z) ≡ admitted w (answered z)
+        unfolding admitted positionRefusal
         fits h =
             say-answered _ _ _
             (sym

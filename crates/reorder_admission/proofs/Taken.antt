@@ -17,12 +17,12 @@ use Rattle.window.specs.Window.{heldAt}
 use Rattle.reorder_session.specs.declared.Session.{Session}
 use Rattle.reorder_session.specs.Session.{broken}
 use Rattle.reorder_session.specs.Outcome.{refusing}
-use Rattle.reorder_place.specs.Place.{placeRefusal, placed, positionOf, offerRefusal, offerSaid}
+use Rattle.reorder_admission.specs.Admission.{positionRefusal, admitted, positionOf, offerRefusal, offerSaid}
 use Rattle.reorder_session.proofs.Whole.{Whole, whole}
 
--- ---- a position that is placed
+-- ---- a position that is admitted
 
-pub record Placed (w : Window) (y : Said ℤ) (p : ℕ) : Type 0 where
+pub record Admitted (w : Window) (y : Said ℤ) (p : ℕ) : Type 0 where
   pub at : y ≡ answered (pos p)
   pub most : p ≤ 999999
   pub least : w .next ≤ p
@@ -33,11 +33,11 @@ number-of : (n : ℕ) (z : ℤ) → leZ (pos n) z ≡ true → z ≡ pos (natAbs
 number-of n (pos m) e = refl
 number-of n (negsuc m) e = absurd (omega ints)
 
-pub placed-at : (w : Window) (y : Said ℤ) (p : ℕ) → placed w y ≡ answered p → Placed w y p
-unfolding placed placeRefusal
-placed-at w (refused n) p e = let z : _≡_ {A = ℕ} 0 1 = cc in absurd (omega arith)
-placed-at w (answered z) p e =
-    let a = answer-said (placeRefusal w z) (natAbs z) p (sym e) in
+pub admitted-at : (w : Window) (y : Said ℤ) (p : ℕ) → admitted w y ≡ answered p → Admitted w y p
+unfolding admitted positionRefusal
+admitted-at w (refused n) p e = let z : _≡_ {A = ℕ} 0 1 = cc in absurd (omega arith)
+admitted-at w (answered z) p e =
+    let a = answer-said (positionRefusal w z) (natAbs z) p (sym e) in
     let c1 = passed _ 21 _ (a .0) in
     let c2 = passed _ 22 _ (c1 .1) in
     let c3 = passed _ 23 _ (c2 .1) in
@@ -61,7 +61,7 @@ pub record Taken (s : Session) (size : ℕ) (b : List ℕ) (p : ℕ) : Type 0 wh
   pub sound : Whole s
   pub store : size ≡ 34560
   pub read : readRefusal b (s .«sum_word») ≡ 0
-  pub place : Placed (s .window) (positionOf s (fieldsOf b)) p
+  pub position : Admitted (s .window) (positionOf s (fieldsOf b)) p
 
 refusing-none : {A : Type 0} (m : ℕ) (x : Said A) (a : A) → refusing m x ≡ answered a → (m ≡ 0) × (x ≡ answered a)
 unfolding refusing
@@ -78,5 +78,5 @@ taken-offer s size b p e =
       sound = whole s (not-true (broken s) (c1 .0));
       store = eqb-true _ _ (c2 .0);
       read = c2 .1;
-      place = placed-at (s .window) _ p (r .1);
+      position = admitted-at (s .window) _ p (r .1);
     }

@@ -1,4 +1,4 @@
--- Each outcome of the tests, by `Placing`.
+-- Each outcome of the tests, by `Admitting`.
 use Prim.Native.Nat.{_-_}
 use mathlib.Core.Path.{_≡_, sym, ap, _∙_}
 use mathlib.Core.Bool.{false}
@@ -13,11 +13,11 @@ use Rattle.position.specs.declared.Located.{Located}
 use Rattle.position.specs.Position.{said}
 use Rattle.window.specs.declared.Window.{Window}
 use Rattle.window.specs.Window.{heldAt}
-use Rattle.reorder_place.specs.Place.{placed}
-use Rattle.reorder_place.proofs.Placing.{beyond, below, fits-u32, from-next, taken, ahead, fits}
+use Rattle.reorder_admission.specs.Admission.{admitted}
+use Rattle.reorder_admission.proofs.Admitting.{beyond, below, fits-u32, from-next, taken, ahead, fits}
 use borrow.Author.Needs.{needs}
-use Rattle.reorder_place.proofs.place.Statement.{statement}
-use Rattle.reorder_place.proofs.place.Tie as tie
+use Rattle.reorder_admission.proofs.position_answer.Statement.{statement}
+use Rattle.reorder_admission.proofs.position_answer.Tie as tie
 
 -- the window, the position that was worked out, and that it was
 module _ (k : tie.After-known-told) where
@@ -30,8 +30,8 @@ module _ (k : tie.After-known-told) where
   fits-i64 : SFits w64 at
   fits-i64 = search needs
 
-  told : placed window (answered at) ≡ placed window (said (k .before .before .before .args .located))
-  told = ap (λ (l : Located). placed window (said l)) (sym (k .before .located .given .1))
+  told : admitted window (answered at) ≡ admitted window (said (k .before .before .before .args .located))
+  told = ap (λ (l : Located). admitted window (said l)) (sym (k .before .located .given .1))
 
 -- the tests passed, and what `is_held` answers
 top : (c : tie.Else1) → ltZ (pos 999999) (at (c .before)) ≡ false
@@ -56,8 +56,8 @@ enum-told : tie.Need-enum-told
 enum-told c = search needs
 
 returns : tie.Need-returns
-unfolding placed
-returns c = ap (λ (l : Located). placed (c .before .before .args .window) (said l)) (sym (c .enum-told .given .1))
+unfolding admitted
+returns c = ap (λ (l : Located). admitted (c .before .before .args .window) (said l)) (sym (c .enum-told .given .1))
 
 returns-2 : tie.Need-returns-2
 returns-2 c =
@@ -113,8 +113,8 @@ returns-6 c =
     ∙ fits (window k) (at k) (top (e .before .before)) (low e) free (simp (toZ-ofZ w64) at (c .if4 .left))
     ∙ told k
 
-pub place-spec : {M : Type 1} → statement M
-place-spec =
+pub position-answer-spec : {M : Type 1} → statement M
+position-answer-spec =
     tie.close
     (tie.spec
     enum-known-located
