@@ -56,7 +56,7 @@ fn offered(
     spread: i64,
     sum_word: usize,
 ) -> Option<Vec<u8>> {
-    let place = match random.below(12) {
+    let at = match random.below(12) {
         0 => i64::from(reach) + random.pick(&[0, 31]),
         1 => i64::from(reach) - random.within(1, 40),
         2 => i64::from(reach) + random.within(0, 31) + 16_384 * random.within(-2, 70),
@@ -66,15 +66,15 @@ fn offered(
         0 => random.within(-3_700, 3_700),
         _ => random.within(-30, 30),
     };
-    let time = (i64::from(anchor.time) + 14 * place + late) as u32;
-    let count = (i64::from(anchor.count) + place).rem_euclid(16_384) as u16;
+    let time = (i64::from(anchor.time) + 14 * at + late) as u32;
+    let count = (i64::from(anchor.count) + at).rem_euclid(16_384) as u16;
     let mut packet = generate::packet(random, count, time, sum_word);
     if random.once_in(10) {
         generate::damage(random, &mut packet, sum_word);
     }
     let read = read_packet(&packet, sum_word).ok();
-    let place = read.and_then(|fields| position(anchor, fields.count, fields.coarse_time));
-    let too_far = place.is_some_and(|p| p > i64::from(reach) + 31 && p < i64::from(END));
+    let at = read.and_then(|fields| position(anchor, fields.count, fields.coarse_time));
+    let too_far = at.is_some_and(|p| p > i64::from(reach) + 31 && p < i64::from(END));
     (!too_far).then_some(packet)
 }
 

@@ -7,9 +7,12 @@ use Rattle.octets.specs.Bytes.{part}
 use Rattle.packet_check.specs.Refusal.{readRefusal}
 use Rattle.aedr.specs.Decimal.{decimal}
 
--- how many pieces the input has
+-- how many pieces n bytes are cut into, and how many the input has
+abbrev pub piecesIn : ℕ → ℕ
+piecesIn n = (n + 1229) / 1230
+
 abbrev pub pieceCount : List ℕ → ℕ
-pieceCount input = (length input + 1229) / 1230
+pieceCount input = piecesIn (length input)
 
 -- piece i of the input, from 0; the last is perhaps short
 abbrev pub piece : List ℕ → ℕ → List ℕ

@@ -1,11 +1,11 @@
 // The check of an AEDR file's pieces: what document 01's program prints, as text in lent bytes.
 ghost use mathlib.Core.Path.{_≡_};
-ghost use Prim.Native.Nat.{_+_, _*_, _/_, _<_, _≤_};
+ghost use Prim.Native.Nat.{_+_, _*_, _<_, _≤_};
 ghost use lib.ListN.{length, take};
 ghost use Rattle.octets.specs.Bytes.{put};
 ghost use Rattle.aedr.specs.Decimal.{decimal};
 ghost use Rattle.aedr.specs.Text.{TextAt};
-ghost use Rattle.aedr.specs.Printed.{pieceCount, piece as Printed·piece, answerOf, line, lines};
+ghost use Rattle.aedr.specs.Printed.{piecesIn, pieceCount, piece as Printed·piece, answerOf, line, lines};
 ghost use Rattle.aedr.specs.Turns.{report as Turns·report, closing, TurnsPrintTheWhole};
 
 // The size of an AEDR record, and of each piece but a short last one.
@@ -43,7 +43,7 @@ fn put_line(out: &mut [u8], at: usize, number: u64, answer: u8) -> usize
 
 // How many pieces n bytes are cut into, the last perhaps short.
 pub fn count_pieces(n: usize) -> usize
-    ensures { λ r. ⌜ r ≡ (n + 1229) / 1230 ⌝ }
+    ensures { λ r. ⌜ r ≡ piecesIn n ⌝ }
 {
     if n % PIECE == 0 {
         return n / PIECE;

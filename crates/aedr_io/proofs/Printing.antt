@@ -9,7 +9,7 @@ use lib.ListN.{length, take, length-take}
 use lib.Seq.{length-take-le}
 use borrow.Author.Tests.{eqb-true, eqb-false}
 use Rattle.io.specs.Counts.{Counts}
-use Rattle.aedr.specs.Printed.{pieceCount}
+use Rattle.aedr.specs.Printed.{piecesIn, pieceCount}
 use Rattle.aedr.specs.Turns.{report, closing}
 use Rattle.aedr_io.specs.declared.Turn.{Turn}
 use Rattle.aedr_io.specs.declared.Progress.{Progress}
@@ -90,19 +90,20 @@ module _ (r : Turns) (buf out : List ℕ) (p : TurnsPrinted r buf out) (l : leng
   turns-high =
       either (r .ended) (λ w. omega (arith, p .ended w .pieces, pieces-most (r .read) buf l)) (λ w. omega (arith, p .failed w))
 
+  turns-pieces : r .ended ≡ true → r .records ≡ piecesIn (261990 * r .full + r .read)
+  turns-pieces w =
+      let n : r .read < 261990 = p .ended w .short in
+      omega (arith, p .ended w .pieces, length-take-le (r .read) buf (omega arith))
+
   pub not-closed : Ran (record { records = r .records; complete = false; full = r .full; read = r .read; total = 0 }) buf out
   not-closed = record {
-    most = p .most;
-    low = turns-low;
-    high = turns-high;
+    checked = record { most = p .most; low = turns-low; high = turns-high; complete = λ e. absurd (false≢true e) };
     complete = λ e. absurd (false≢true e);
   }
 
   pub closed : (now : List ℕ) (total : ℕ) (written : Bool) → r .ended ≡ true → take total now ≡ closing (r .records) (length now)
       → Ran (record { records = r .records; complete = written; full = r .full; read = r .read; total = total }) buf now
   closed now total written w q = record {
-    most = p .most;
-    low = turns-low;
-    high = turns-high;
+    checked = record { most = p .most; low = turns-low; high = turns-high; complete = λ e. turns-pieces w };
     complete = λ e. record { short = p .ended w .short; pieces = p .ended w .pieces; total = q };
   }

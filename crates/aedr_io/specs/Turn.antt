@@ -4,7 +4,7 @@ use mathlib.Core.Path.{_≡_}
 use mathlib.Core.Bool.{Bool, true, false, cond}
 use mathlib.Core.List.{List, []}
 use lib.ListN.{length, take}
-use Rattle.aedr.specs.Printed.{pieceCount}
+use Rattle.aedr.specs.Printed.{piecesIn, pieceCount}
 use Rattle.aedr.specs.Turns.{report, closing}
 use Rattle.aedr_io.specs.declared.Progress.{Progress}
 use Rattle.aedr_io.specs.declared.Turns.{Turns}
@@ -41,9 +41,15 @@ pub record Complete (r : Checked) (buf out : List ℕ) : Type 0 where
   pub pieces : r .records ≡ 213 * r .full + pieceCount (take (r .read) buf)
   pub total : take (r .total) out ≡ closing (r .records) (length out)
 
--- A check, with what it leaves in buf and out.
-pub record Ran (r : Checked) (buf out : List ℕ) : Type 0 where
+-- What can be said of a check without its buffers: the pieces are those of `full` turns of 213 and of one of at most as many; those of a complete
+-- check are those of all the bytes that were read.
+pub record FileChecked (r : Checked) : Type 0 where
   pub most : r .records ≤ 213 * 2 ^ 40
   pub low : 213 * r .full ≤ r .records
   pub high : r .records ≤ 213 * r .full + 213
+  pub complete : r .complete ≡ true → r .records ≡ piecesIn (261990 * r .full + r .read)
+
+-- A check, with what it leaves in buf and out.
+pub record Ran (r : Checked) (buf out : List ℕ) : Type 0 where
+  pub checked : FileChecked r
   pub complete : r .complete ≡ true → Complete r buf out

@@ -8,7 +8,7 @@ ghost use Prim.Native.Nat.{_+_, _*_, _≤_, _^_};
 ghost use lib.ListN.{length, take};
 ghost use Rattle.io.specs.Counts.{Counts};
 ghost use Rattle.aedr.specs.Turns.{closing};
-ghost use Rattle.aedr_io.specs.Turn.{turnText, TurnPrinted, TurnsPrinted, Ran};
+ghost use Rattle.aedr_io.specs.Turn.{turnText, TurnPrinted, TurnsPrinted, Ran, FileChecked};
 
 // 2^40: a loop has to end, and nothing says that the input does. So many turns have fewer than 2^48 pieces, and their count cannot wrap.
 const TURNS: u64 = 1099511627776;
@@ -223,10 +223,10 @@ fn run(fd: i32, buf: &mut [u8], out: &mut [u8]) -> Checked
     }
 }
 
-// Checks the file on fd. It ends, and the count of pieces does not wrap: they are those of `full` turns of 213 and of one of at most as many. A
-// failed read or write is told on standard error, and then nothing more is written on standard output.
+// Checks the file on fd. It ends, and the count of pieces does not wrap. A failed read or write is told on standard error, and then nothing more
+// is written on standard output.
 pub fn check_file(fd: i32) -> Checked
-    ensures { λ r. ⌜ (r .records ≤ 213 * 2 ^ 40) × ((213 * r .full ≤ r .records) × (r .records ≤ 213 * r .full + 213)) ⌝ }
+    ensures { λ r. ⌜ FileChecked r ⌝ }
 {
     let mut buf = [0u8; 261990];
     let mut out = [0u8; 5112];

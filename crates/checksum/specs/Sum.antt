@@ -18,6 +18,6 @@ wordSum (a ∷ b ∷ s) = a * 256 + b + wordSum s
 unfoldable pub zeroed : ℕ → List ℕ → List ℕ
 zeroed w s = put s (w * 2) (0 ∷ 0 ∷ [])
 
--- the packet sum with its place at word w
+-- the packet sum that stands at word w (document 01's place): that word is taken as zero
 unfoldable pub packetSum : List ℕ → ℕ → ℕ
 packetSum s w = wordSum (zeroed w s) % 65536

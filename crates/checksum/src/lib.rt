@@ -36,7 +36,7 @@ fn words_sum(bytes: &[u8]) -> u16
     std::num::wrapping_add_u16(sum, wide(octets::u8_at(bytes, i)))
 }
 
-// The packet sum of any bytes, with its place at any word: that word is taken as zero.
+// The packet sum of any bytes, with the word sum_word taken as zero. Any word.
 pub fn packet_sum(bytes: &[u8], sum_word: usize) -> u16
     ensures { λ r. ⌜ r ≡ packetSum (now (bytes .entry)) «sum_word» ⌝ }
 {

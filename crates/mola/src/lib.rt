@@ -69,7 +69,7 @@ pub extern "C" fn mola_read_packet(packet: &[u8], sum_word: usize) -> PacketNumb
     }
 }
 
-// The packet sum with its place at word sum_word, of any bytes.
+// The packet sum of any bytes, with the word sum_word taken as zero.
 #[no_mangle]
 pub extern "C" fn mola_packet_sum(bytes: &[u8], sum_word: usize) -> u16
     ensures { λ r. ⌜ r ≡ packetSum (now (bytes .entry)) «sum_word» ⌝ }

@@ -1,4 +1,4 @@
--- An accepted packet meets the conditions of refusals 1 to 10, and a packet that meets them is accepted.
+-- An accepted packet passes every test of refusals 1 to 10, and one that passes them is accepted.
 use Prim.Native.Nat.{ℕ, _≤_}
 use mathlib.Core.Path.{_≡_, sym}
 use mathlib.Core.List.{List}

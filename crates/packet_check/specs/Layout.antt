@@ -1,4 +1,4 @@
--- Document 01, "Packet layout", the table: packet bytes count from 0. The names are those of source document 004.
+-- Document 01, "Packet layout", the table: packet bytes count from 0. docs/LAYOUTS.md has each column's name in source document 004.
 use mathlib.Core.List.{List, [], _∷_}
 use Rattle.layout.specs.Column.{Column, column}
 

@@ -1,4 +1,5 @@
--- Document 01, "PEDR record": the columns of one item, by the table of the layout, grouped by meaning.
+-- Document 01, "PEDR record": the columns of one item, and the ground's two, by the table of the layout, grouped by meaning;
+-- quality and descriptor by their bits.
 use Prim.Native.Nat.{ℕ}
 use mathlib.Core.List.{List}
 use Rattle.layout.specs.Column.{value, item}

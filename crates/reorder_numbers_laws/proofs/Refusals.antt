@@ -1,4 +1,4 @@
--- Each ladder says its refusals by `say`, which never says 0; an offer's may also be the position's.
+-- Each ladder says its refusals by `say`, which never refuses with 0; an offer's may also be its position's, 21.
 use Prim.Native.Nat.{ℕ, zero, suc}
 use mathlib.Core.Path.{_≡_, refl, sym, _∙_}
 use mathlib.Core.List.{List}

@@ -1,5 +1,5 @@
--- Each call in numbers is a call over a lent session, of `reorder_lent`, with its answer told in numbers. So what is promised of histories of those
--- calls, demand 3 among it (`reorder_lent_steps`), holds of histories of these.
+-- Each call in numbers is a call over a lent session, of `reorder_lent`, with its answer told in numbers. Demand 3 for them is in
+-- `NumberedCalls`.
 use Prim.Native.Nat.{ℕ}
 use mathlib.Core.Path.{_≡_}
 use mathlib.Core.List.{List}

@@ -1,4 +1,4 @@
-// What serving the reorder buffer answers: a turn, its description, and the refusals of serve and drain (document 01, "The rack").
+// What serving the reorder buffer answers: the answers, their descriptions, and the refusals of serve and drain (document 01, "The rack").
 use reorder_session::Session;
 ghost use mathlib.Core.Path.{_≡_};
 ghost use Rattle.reorder_turn.specs.Turn.{turn, isWaiting, serveSaid, describedSaid};

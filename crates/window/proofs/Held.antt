@@ -1,4 +1,4 @@
--- The laws of the window at positions: what is held, before and after each step. No other crate looks at a bit.
+-- The laws of the window at positions: what is held, before and after each step. No other crate of the reorder buffer looks at a bit.
 use Prim.Native.Nat.{ℕ, zero, suc, _+_, _-_, _*_, _%_, _^_, _≤_, _<_}
 use mathlib.Core.Path.{_≡_, sym, ap, _∙_}
 use mathlib.Core.Bool.{Bool, true, false, _&&_, true≢false, false≢true}

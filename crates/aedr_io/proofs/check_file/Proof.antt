@@ -15,8 +15,7 @@ run-requires : tie.Need-run-requires
 run-requires c κs = length-replicate {A = ℕ} 261990 0
 
 returns : tie.Need-returns
-returns c =
-    let r = c .before .before .run .ensures in (r .most, (r .low, r .high))
+returns c = c .before .before .run .ensures .checked
 
 pub check-file-spec : {M : Type 1} → statement M
 check-file-spec =

@@ -1,4 +1,4 @@
--- The walk of `Walk.antt` over `reorder_serve::pass`.
+-- The walk of `Walk.antt` over `reorder_pass::pass`.
 use contract.Running.{givenOf}
 use Rattle.reorder_pass.proofs.pass.Symbol as by-value
 use Rattle.reorder_pass.proofs.pass.Met as by-value-met

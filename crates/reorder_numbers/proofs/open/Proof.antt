@@ -1,4 +1,4 @@
--- What `open-or` promises, in numbers.
+-- What `open_or` promises, in numbers.
 use denote.Ref.{now}
 use lib.ListN.{length}
 use Rattle.reorder_admission.specs.Admission.{said}
