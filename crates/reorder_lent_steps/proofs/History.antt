@@ -12,10 +12,11 @@ use Rattle.reorder_serve.specs.declared.Report.{Report}
 use Rattle.reorder_turn.specs.Turn.{serveSaid}
 use Rattle.reorder_pass.specs.Pass.{passSaid}
 use Rattle.reorder_histories.specs.Histories.{offer, serve, drain, pass, offerTells, serveTells, drainTells, passTells, State}
+use Rattle.reorder_steps.specs.Made.{MadeBy}
 use Rattle.reorder_steps.specs.Steps.{reported, IsStart, IsStep, IsPassStep}
 use Rattle.reorder_steps.proofs.Steps.{short}
 use Rattle.reorder_lent.specs.Lent.{Opens, Offers, Serves, Drains, Passes}
-use Rattle.reorder_lent_steps.specs.LentCalls.{LentOffer, LentDrain, LentCalls, LentShort}
+use Rattle.reorder_lent_steps.specs.LentCalls.{LentOffer, LentDrain, LentShort}
 use Rattle.reorder_lent_steps.proofs.Steps.{is-start, is-step}
 
 pub open-is-start : (s : Session) (store b : List ℕ) (threshold word : ℕ) (r : OfferAnswer) (t : Session) (c : List ℕ) → Opens s store b threshold word r t c
@@ -51,7 +52,7 @@ module _ (store out first b : List ℕ) (threshold word : ℕ) (x y : OfferAnswe
 
   pub lent-short : Opens noSession store first threshold word x s c → Offers s c b y t d → Drains t out d 32 r u e
       → LentShort store out first b threshold word r u d e
-  unfolding LentCalls
+  unfolding MadeBy
   lent-short o f g =
       let offered : LentOffer opening b second = record { answer = y; promised = f; told = refl } in
       let drained : LentDrain second out 32 third = record { report = r; output = e; promised = g; same-store = refl; told = refl } in

@@ -1,7 +1,7 @@
 -- The promises of any opening and any list of calls can all hold: what a call says is said by some answer, and the rest is as it promises.
 use Prim.Native.Nat.{ℕ, _+_}
 use mathlib.Core.Path.{_≡_, refl, sym, ap, _∙_}
-use mathlib.Core.List.{List, [], _∷_, _++_}
+use mathlib.Core.List.{List, _++_}
 use Rattle.octets.specs.Refusal.{Said}
 use Rattle.reorder_session.specs.declared.Session.{Session}
 use Rattle.reorder_admission.specs.Admission.{said}
@@ -11,12 +11,12 @@ use Rattle.reorder_turn.specs.Turn.{Turn}
 use Rattle.reorder_serve.specs.Serve.{serveOf, drainSaid, drainOf, counted, descriptions, countSaid}
 use Rattle.reorder_pass.specs.Pass.{passOf}
 use Rattle.reorder_serve.proofs.Count.{drain-count}
-use Rattle.reorder_histories.specs.Histories.{Call, offer, serve, drain, pass, offerTells, serveTells, drainTells, passTells, State, step, run, Consumer, atStart, atEnd}
+use Rattle.reorder_histories.specs.Histories.{Call, offer, serve, drain, pass, offerTells, serveTells, drainTells, passTells, State, start, step}
 use Rattle.reorder_steps.proofs.Steps.{reads-back}
 use Rattle.reorder_lent.specs.Lent.{Drains}
 use Rattle.reorder_lent.proofs.Says.{offer-says, serve-says, drain-says, pass-says}
 use Rattle.reorder_lent.proofs.Comes.{open-refusal, offer-refusal, serve-refusal, drain-refusal, pass-refusal, pass-bytes, comes}
-use Rattle.reorder_lent_steps.specs.LentCalls.{LentCall, LentCalls, LentConsumer}
+use Rattle.reorder_lent_steps.specs.LentCalls.{LentOpen, LentCall}
 
 drains : (s : Session) (out store : List ℕ) (budget : ℕ) (r : Report) → drainSaid (r .answer) ≡ counted (drainOf s out store budget .said)
     → r .descriptions ≡ descriptions (drainOf s out store budget .said)
@@ -30,7 +30,7 @@ drains s out store budget r e f =
 
 -- ---- the calls
 
-call-holds : (w : State) (c : Call) → LentCall w c (step w c)
+pub call-holds : (w : State) (c : Call) → LentCall w c (step w c)
 unfolding step
 call-holds w (offer b) =
     let o = offerOf (w .session) (w .store) b in
@@ -70,20 +70,11 @@ call-holds w pass =
       told = ap (λ (x : Said ℕ). w .events ++ passTells x) (sym e);
     }
 
-calls-hold : (w : State) (cs : List Call) → LentCalls w cs (run w cs)
-unfolding LentCalls run
-calls-hold w [] = refl
-calls-hold w (c ∷ cs) = (step w c, call-holds w c, calls-hold (step w c) cs)
-
-pub can-hold : (c : Consumer) (b : List ℕ) (word : ℕ) → LentConsumer c b word (atEnd c b word)
-can-hold c b word =
-    let o = openOf (c .before) (c .store) b (c .threshold) word in
-    let (r, e) = offer-says (o .said) in (
-      atStart c b word,
-      record {
-        answer = r;
-        promised = comes (open-refusal (c .before) (c .store) b (c .threshold) word) e refl refl;
-        told = ap (λ (x : Said ℕ). offerTells x b) (sym e);
-      },
-      calls-hold (atStart c b word) (c .calls),
-    )
+pub open-holds : (s : Session) (store b : List ℕ) (threshold word : ℕ) → LentOpen s store b threshold word (start (openOf s store b threshold word) b)
+open-holds s store b threshold word =
+    let (r, e) = offer-says (openOf s store b threshold word .said) in
+    record {
+      answer = r;
+      promised = comes (open-refusal s store b threshold word) e refl refl;
+      told = ap (λ (x : Said ℕ). offerTells x b) (sym e);
+    }

@@ -6,32 +6,14 @@ use mathlib.Core.List.{List, [], _∷_, _++_}
 use Rattle.reorder_session.specs.declared.Session.{Session}
 use Rattle.reorder_admission.specs.declared.OfferAnswer.{OfferAnswer}
 use Rattle.reorder_admission.specs.Admission.{said}
-use Rattle.reorder.specs.Offer.{openOf, noSession}
+use Rattle.reorder.specs.Offer.{noSession}
 use Rattle.reorder_turn.specs.declared.ServeAnswer.{ServeAnswer}
 use Rattle.reorder_pass.specs.declared.PassAnswer.{PassAnswer}
 use Rattle.reorder_serve.specs.declared.Report.{Report}
 use Rattle.reorder_turn.specs.Turn.{serveSaid}
 use Rattle.reorder_pass.specs.Pass.{passSaid}
-use Rattle.reorder_histories.specs.Histories.{
-  Call,
-  Event,
-  offer,
-  serve,
-  drain,
-  pass,
-  offerTells,
-  serveTells,
-  drainTells,
-  passTells,
-  State,
-  start,
-  step,
-  run,
-  Consumer,
-  atEnd,
-  OpenedAlike,
-  NothingLost,
-}
+use Rattle.reorder_histories.specs.Histories.{Call, Event, offer, serve, drain, pass, offerTells, serveTells, drainTells, passTells, State}
+use Rattle.reorder_steps.specs.Made.{MadeBy, LosesNothing}
 use Rattle.reorder_steps.specs.Steps.{reported, Short}
 use Rattle.reorder_lent.specs.Lent.{Opens, Offers, Serves, Drains, Passes}
 
@@ -75,26 +57,13 @@ LentCall w (serve out) u = LentServe w out u
 LentCall w (drain out budget) u = LentDrain w out budget u
 LentCall w pass u = LentPass w u
 
--- ---- a history
+-- ---- a history: `Made` of `reorder_steps` has what is said of it
 
--- each call of the list is lent what the last one left
-unfoldable pub LentCalls : State → List Call → State → Type 0
-LentCalls w [] u = u ≡ w
-LentCalls w (c ∷ cs) u = (v : State) × LentCall w c v × LentCalls v cs u
+abbrev pub LentCalls : State → List Call → State → Type 0
+LentCalls = MadeBy LentCall
 
--- a consumer whose opening with the packet b, and then whose calls, came to u
-abbrev pub LentConsumer : Consumer → List ℕ → ℕ → State → Type 0
-LentConsumer c b word u = (v : State) × LentOpen (c .before) (c .store) b (c .threshold) word v × LentCalls v (c .calls) u
-
-pub record LentHistoriesLoseNothing : Type 0 where
-  -- the promises of any opening and of any list of calls can all hold
-  pub can-hold : (c : Consumer) (b : List ℕ) (word : ℕ) → LentConsumer c b word (atEnd c b word)
-  pub is-start : (s : Session) (store b : List ℕ) (threshold word : ℕ) (u : State) → LentOpen s store b threshold word u
-      → u ≡ start (openOf s store b threshold word) b
-  pub is-step : (w u : State) (c : Call) → LentCall w c u → u ≡ step w c
-  pub are-runs : (w u : State) (cs : List Call) → LentCalls w cs u → u ≡ run w cs
-  pub lose-nothing : (less more : Consumer) (b : List ℕ) (word : ℕ) (u v : State) → OpenedAlike less more b word
-      → LentConsumer less b word u → LentConsumer more b word v → NothingLost u v
+abbrev pub LentHistoriesLoseNothing : Type 0
+LentHistoriesLoseNothing = LosesNothing LentOpen LentCall
 
 -- ---- a short history in code
 

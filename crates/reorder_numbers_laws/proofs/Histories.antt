@@ -1,7 +1,7 @@
--- What a call in numbers promises, as a step; and a history of such calls, as a run.
+-- What a call in numbers promises, as a step.
 use Prim.Native.Nat.{ℕ, _*_, _≤_}
 use mathlib.Core.Path.{_≡_, refl, sym, ap, _∙_}
-use mathlib.Core.List.{List, [], _∷_, _++_}
+use mathlib.Core.List.{List, _++_}
 use native.Mathlib.Omega.{arith}
 use lib.ListN.{length, replicate, length-replicate}
 use Rattle.octets.specs.Refusal.{Said}
@@ -11,13 +11,14 @@ use Rattle.reorder_turn.specs.Turn.{Turn, packet, missing}
 use Rattle.reorder_serve.specs.Serve.{serveOf, drainOf, counted}
 use Rattle.reorder_serve.proofs.Count.{drain-count}
 use Rattle.reorder_pass.specs.Pass.{passOf}
-use Rattle.reorder_histories.specs.Histories.{Call, offer, serve, drain, pass, offerTells, serveTells, drainTells, passTells, State, start, step, run, Consumer, atStart, atEnd, HigherThresholdLosesNothing}
+use Rattle.reorder_histories.specs.Histories.{Call, offer, serve, drain, pass, offerTells, serveTells, drainTells, passTells, State, start, step, HigherThresholdLosesNothing}
+use Rattle.reorder_steps.proofs.Made.{loses-nothing}
 use Rattle.reorder_steps.proofs.Steps.{is-state, told-after}
 use Rattle.reorder_lent.proofs.Comes.{open-refusal, offer-refusal, serve-refusal, pass-refusal, pass-bytes}
 use Rattle.reorder_numbers.specs.declared.Count.{Count}
 use Rattle.reorder_numbers.specs.Numbers.{held, served, passed, drained, tabled}
 use Rattle.reorder_numbers.proofs.Said.{says, drains}
-use Rattle.reorder_numbers_laws.specs.NumberedCalls.{positionSaid, turnSaid, turnsSaid, NumberedOpen, NumberedCall, NumberedCalls, NumberedConsumer, NumberedHistoriesLoseNothing}
+use Rattle.reorder_numbers_laws.specs.NumberedCalls.{positionSaid, turnSaid, turnsSaid, NumberedOpen, NumberedCall, NumberedHistoriesLoseNothing}
 use Rattle.reorder_numbers_laws.proofs.Refusals.{open-numbered, offer-numbered, serve-numbered, drain-numbered, pass-numbered}
 use Rattle.reorder_numbers_laws.proofs.Said.{position-said, turn-said, turns-said}
 
@@ -39,7 +40,7 @@ drain-said : (s : Session) (out store : List ℕ) (budget : ℕ) (d : List ℕ) 
     2 * drained (counted x) .count ≤ length d → turnsSaid (drained (counted x)) (tabled x d) ≡ x
 drain-said s out store budget d room = turns-said _ d (drain-numbered s out store budget) room
 
--- ---- a call is a step, a history a run
+-- ---- a call is a step
 
 is-start : (s : Session) (store b : List ℕ) (threshold word : ℕ) (u : State) → NumberedOpen s store b threshold word u
     → u ≡ start (openOf s store b threshold word) b
@@ -63,14 +64,6 @@ is-step w u (drain out budget) c =
 is-step w u pass c =
     let e = ap positionSaid (c .promised .answer) ∙ pass-said (w .session) in
     is-state (c .promised .session) (c .same-store) (told-after w (c .told) (ap passTells e))
-
-are-runs : (w u : State) (cs : List Call) → NumberedCalls w cs u → u ≡ run w cs
-unfolding NumberedCalls run
-are-runs w u [] e = e
-are-runs w u (c ∷ cs) (v, d, m) = are-runs v u cs m ∙ ap (λ (x : State). run x cs) (is-step w v c d)
-
-comes-to-end : (c : Consumer) (b : List ℕ) (word : ℕ) (u : State) → NumberedConsumer c b word u → u ≡ atEnd c b word
-comes-to-end c b word u (v, o, m) = are-runs v u (c .calls) m ∙ ap (λ (x : State). run x (c .calls)) (is-start _ _ b _ word v o)
 
 -- ---- the promises can all hold
 
@@ -115,33 +108,21 @@ call-holds w pass =
       told = ap (λ (x : Said ℕ). w .events ++ passTells x) (sym (pass-said (w .session)));
     }
 
-calls-hold : (w : State) (cs : List Call) → NumberedCalls w cs (run w cs)
-unfolding NumberedCalls run
-calls-hold w [] = refl
-calls-hold w (c ∷ cs) = (step w c, call-holds w c, calls-hold (step w c) cs)
-
-can-hold : (c : Consumer) (b : List ℕ) (word : ℕ) → NumberedConsumer c b word (atEnd c b word)
-can-hold c b word =
-    let o = openOf (c .before) (c .store) b (c .threshold) word in (
-      atStart c b word,
-      record {
-        answer = held (o .said);
-        promised = says packet (o .said) (open-refusal (c .before) (c .store) b (c .threshold) word) refl refl refl refl;
-        told = ap (λ (x : Said ℕ). offerTells x b) (sym (open-said (c .before) (c .store) b (c .threshold) word));
-      },
-      calls-hold (atStart c b word) (c .calls),
-    )
+open-holds : (s : Session) (store b : List ℕ) (threshold word : ℕ) → NumberedOpen s store b threshold word (start (openOf s store b threshold word) b)
+open-holds s store b threshold word =
+    let o = openOf s store b threshold word in
+    record {
+      answer = held (o .said);
+      promised = says packet (o .said) (open-refusal s store b threshold word) refl refl refl refl;
+      told = ap (λ (x : Said ℕ). offerTells x b) (sym (open-said s store b threshold word));
+    }
 
 pub numbered-histories-lose-nothing : HigherThresholdLosesNothing → NumberedHistoriesLoseNothing
 numbered-histories-lose-nothing h =
     record {
-      can-hold = can-hold;
+      histories = loses-nothing NumberedOpen NumberedCall open-holds call-holds is-start is-step h;
       open-said = λ s store b h w u c. ap positionSaid (c .promised .answer) ∙ open-said s store b h w;
       offer-said = λ w u b c. ap positionSaid (c .promised .answer) ∙ offer-said (w .session) (w .store) b;
       serve-said = λ w u out c. ap turnSaid (c .promised .answer) ∙ serve-said (w .session) out (w .store);
       pass-said = λ w u c. ap positionSaid (c .promised .answer) ∙ pass-said (w .session);
-      is-start = is-start;
-      is-step = is-step;
-      are-runs = are-runs;
-      lose-nothing = λ less more b word u v o m n. rw (comes-to-end less b word u m, comes-to-end more b word v n) (h less more b word o);
     }

@@ -10,25 +10,8 @@ use Rattle.reorder.specs.Offer.{openOf, offerOf}
 use Rattle.reorder_turn.specs.Turn.{Turn}
 use Rattle.reorder_serve.specs.Serve.{serveOf}
 use Rattle.reorder_pass.specs.Pass.{passOf}
-use Rattle.reorder_histories.specs.Histories.{
-  Call,
-  offer,
-  serve,
-  drain,
-  pass,
-  offerTells,
-  serveTells,
-  drainTells,
-  passTells,
-  State,
-  start,
-  step,
-  run,
-  Consumer,
-  atEnd,
-  OpenedAlike,
-  NothingLost,
-}
+use Rattle.reorder_histories.specs.Histories.{Call, offer, serve, drain, pass, offerTells, serveTells, drainTells, passTells, State}
+use Rattle.reorder_steps.specs.Made.{LosesNothing}
 use Rattle.reorder_steps.specs.Steps.{describedBy}
 use Rattle.reorder_numbers.specs.declared.Answer.{Answer}
 use Rattle.reorder_numbers.specs.declared.Count.{Count}
@@ -101,31 +84,13 @@ NumberedCall w (serve out) u = NumberedServe w out u
 NumberedCall w (drain out budget) u = NumberedDrain w out budget u
 NumberedCall w pass u = NumberedPass w u
 
--- ---- a history
-
--- each call of the list is given what the last one left
-unfoldable pub NumberedCalls : State → List Call → State → Type 0
-NumberedCalls w [] u = u ≡ w
-NumberedCalls w (c ∷ cs) u = (v : State) × NumberedCall w c v × NumberedCalls v cs u
-
--- a consumer whose opening with the packet b, and then whose calls, came to u
-abbrev pub NumberedConsumer : Consumer → List ℕ → ℕ → State → Type 0
-NumberedConsumer c b word u = (v : State) × NumberedOpen (c .before) (c .store) b (c .threshold) word v × NumberedCalls v (c .calls) u
+-- ---- a history: `Made` of `reorder_steps` has what is said of it
 
 pub record NumberedHistoriesLoseNothing : Type 0 where
-  -- the promises of any opening and of any list of calls can all hold
-  pub can-hold : (c : Consumer) (b : List ℕ) (word : ℕ) → NumberedConsumer c b word (atEnd c b word)
+  pub histories : LosesNothing NumberedOpen NumberedCall
   -- what the numbers say is what the call says, so that what `OpenedAlike` supposes (accepted, not 25, Waiting, a refused pass) stands in them
   pub open-said : (s : Session) (store b : List ℕ) (threshold word : ℕ) (u : State) (c : NumberedOpen s store b threshold word u)
       → positionSaid (c .answer) ≡ openOf s store b threshold word .said
   pub offer-said : (w u : State) (b : List ℕ) (c : NumberedOffer w b u) → positionSaid (c .answer) ≡ offerOf (w .session) (w .store) b .said
   pub serve-said : (w u : State) (out : List ℕ) (c : NumberedServe w out u) → turnSaid (c .answer) ≡ serveOf (w .session) out (w .store) .said
   pub pass-said : (w u : State) (c : NumberedPass w u) → positionSaid (c .answer) ≡ passOf (w .session) .said
-  -- an opening is the start, and each call a step, of the lists of demand 3
-  pub is-start : (s : Session) (store b : List ℕ) (threshold word : ℕ) (u : State) → NumberedOpen s store b threshold word u
-      → u ≡ start (openOf s store b threshold word) b
-  pub is-step : (w u : State) (c : Call) → NumberedCall w c u → u ≡ step w c
-  pub are-runs : (w u : State) (cs : List Call) → NumberedCalls w cs u → u ≡ run w cs
-  -- demand 3 for what two histories of these calls came to
-  pub lose-nothing : (less more : Consumer) (b : List ℕ) (word : ℕ) (u v : State) → OpenedAlike less more b word
-      → NumberedConsumer less b word u → NumberedConsumer more b word v → NothingLost u v

@@ -11,7 +11,9 @@ use Rattle.reorder_serve.specs.Serve.{drainSaid, drainOf, counted, descriptions
 use Rattle.reorder_turn.specs.declared.Description.{Description}
 use Rattle.reorder_serve.specs.declared.Report.{Report}
 use Rattle.reorder_histories.specs.Histories.{Call, offer, drain, Event, offerTells, drainTells, State, step, run, HigherThresholdLosesNothing}
+use Rattle.reorder_steps.specs.Made.{MadeBy}
 use Rattle.reorder_steps.specs.Steps.{describedBy, firstOf, reported, IsStart, IsStep, Made, secondOf, Short, HistoriesLoseNothing}
+use Rattle.reorder_steps.proofs.Made.{made-runs}
 
 -- ---- one call
 
@@ -49,16 +51,14 @@ reads-back r x e f = (λ i. firstOf (f i) (e i)) ∙ read-answers x
 
 -- ---- a history
 
-pub made-runs : (w u : State) (cs : List Call) → Made w cs u → u ≡ run w cs
-unfolding Made run
-made-runs w u [] e = e
-made-runs w u (c ∷ cs) (v, e, m) = made-runs v u cs m ∙ ap (λ (x : State). run x cs) e
+are-runs : (w u : State) (cs : List Call) → Made w cs u → u ≡ run w cs
+are-runs = made-runs (λ w c v. v ≡ step w c) (λ w u c e. e)
 
 pub histories-lose-nothing : HigherThresholdLosesNothing → HistoriesLoseNothing
 histories-lose-nothing h =
     record {
-      are-runs = made-runs;
-      lose-nothing = λ less more b w u v o m n. rw (made-runs _ u _ m, made-runs _ v _ n) (h less more b w o);
+      are-runs = are-runs;
+      lose-nothing = λ less more b w u v o m n. rw (are-runs _ u _ m, are-runs _ v _ n) (h less more b w o);
     }
 
 -- what the three calls of a short history promise, one after another
@@ -70,7 +70,7 @@ module _ (store out first b : List ℕ) (threshold word : ℕ) where
       → drainSaid (r .answer) ≡ counted (drainOf t out d 32 .said) → r .descriptions ≡ descriptions (drainOf t out d 32 .said)
       → u ≡ drainOf t out d 32 .session → e ≡ drainOf t out d 32 .bytes → IsStep t d (drain out 32) u d (drainTells (reported r) e)
       → Short store out first b threshold word r u d e
-  unfolding Made
+  unfolding MadeBy
   short {s} {t} {u} {c} {d} {e} {x} {y} {r} ox os oc oh fy fs fc fh dn dd ds dc dh =
       let second = secondOf store first b threshold word in
       let ts : t ≡ second .session = fs ∙ (λ i. offerOf (os i) (oc i) b .session) in

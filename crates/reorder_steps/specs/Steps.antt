@@ -14,6 +14,7 @@ use Rattle.reorder_serve.specs.Serve.{drainSaid, drainOf, counted, descriptions
 use Rattle.reorder_turn.specs.declared.Description.{Description}
 use Rattle.reorder_serve.specs.declared.Report.{Report}
 use Rattle.reorder_histories.specs.Histories.{Call, offer, drain, pass, Event, offerTells, drainTells, State, start, step, run, Consumer, atStart, OpenedAlike, NothingLost}
+use Rattle.reorder_steps.specs.Made.{MadeBy}
 
 -- ---- what a drain reports, as answers
 
@@ -44,9 +45,8 @@ abbrev pub IsPassStep : Session → Session → List Event → Type 0
 IsPassStep s t told = (b : List ℕ) → IsStep s b pass t b told
 
 -- each call of the list is a step from what the last one left
-unfoldable pub Made : State → List Call → State → Type 0
-Made w [] u = u ≡ w
-Made w (c ∷ cs) u = (v : State) × (v ≡ step w c) × Made v cs u
+abbrev pub Made : State → List Call → State → Type 0
+Made = MadeBy (λ w c v. v ≡ step w c)
 
 -- the offer of b after an opening with the packet first, and the drain of 32 after it
 abbrev pub secondOf : List ℕ → List ℕ → List ℕ → ℕ → ℕ → Outcome ℕ
