@@ -12,7 +12,7 @@ pub const TOLERANCE: u32 = 3600;
 // Count and coarse time of the packet that has position 0.
 #[repr(C)]
 pub struct Anchor {
-    pub count: u16,
+    pub count: u32,
     pub time: u32,
 }
 

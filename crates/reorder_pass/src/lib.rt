@@ -1,8 +1,7 @@
 // Passing a position of the reorder buffer over, by hand (document 01, "The rack").
 use reorder_session::Session;
-use window::Window;
-ghost use mathlib.Core.Path.{_≡_};
-ghost use Rattle.reorder_pass.specs.Pass.{passSaid, passOf};
+ghost use Rattle.reorder_session.specs.Calls.{Passes};
+ghost use Rattle.reorder_pass.specs.Answer.{passSaid};
 
 // A refusal with its number, or the position passed.
 pub enum PassAnswer {
@@ -18,7 +17,7 @@ pub struct Passed {
 
 // Passes next over, by hand.
 pub fn pass(session: Session) -> Passed
-    ensures { λ r. ⌜ (passSaid (r .answer) ≡ passOf session .said) × (r .session ≡ passOf session .session) ⌝ }
+    ensures { λ r. ⌜ Passes session (passSaid (r .answer)) (r .session) ⌝ }
 {
     if reorder_session::is_broken(session) {
         return Passed {
@@ -27,25 +26,21 @@ pub fn pass(session: Session) -> Passed
         };
     }
     let window = session.window;
-    let next = window.next;
-    if next == 1_000_000 {
+    let next = window.start;
+    if next == reorder_rules::END {
         return Passed {
             answer: PassAnswer::Refused(28),
             session,
         };
     }
-    if window::is_next_held(window) {
+    if window::is_start_held(window) {
         return Passed {
             answer: PassAnswer::Refused(26),
             session,
         };
     }
-    let after = Window {
-        next: next + 1,
-        marks: window.marks,
-    };
     Passed {
         answer: PassAnswer::Missing(next),
-        session: reorder_session::with_window(session, after),
+        session: reorder_session::with_window(session, window::skip(window)),
     }
 }

@@ -1,3 +1,3 @@
-mod Running
-pub mod Count
+pub mod Running
+pub mod Reading
 pub mod Waits

@@ -6,10 +6,15 @@ use native.Mathlib.Nat.{sub-zero}
 use native.Mathlib.Omega.{arith}
 use lib.ListN.{length, replicate, set, length-append, length-set}
 use Rattle.octets.specs.Refusal.{answered}
+use Rattle.reorder_rules.specs.Turn as Rules
+use Rattle.reorder_rules.specs.Turn.{Turn}
+use Rattle.reorder_rules.proofs.Turns.{one-more, shown-length, turns-more, turned-last, shown-last}
 use Rattle.reorder_session.specs.declared.Session.{Session}
+use Rattle.reorder_session.specs.Session.{one}
+use Rattle.reorder_session.specs.Calls.{turn, turned, shown, turns, turnedAll, shownAll}
 use Rattle.reorder_turn.specs.declared.Description.{Description}
-use Rattle.reorder_turn.specs.Turn.{Turn, turn, turned, shown, turns, turnedAll, shownAll, none, described, describedAll}
-use Rattle.reorder_turn.proofs.Turns.{one-more, shown-length, turns-more, turned-last, shown-last, described-last}
+use Rattle.reorder_turn.specs.Described.{none, described, describedAll}
+use Rattle.reorder_turn.proofs.Turns.{some-kind, described-last}
 
 -- `done` are the answers so far, i of them; s, out and descriptions are what they leave
 pub record Running (budget : ℕ) (store out₀ : List ℕ) (s₀ : Session) (out : List ℕ) (s : Session) (i : ℕ) (descriptions : List Description) : Type 0 where
@@ -17,16 +22,16 @@ pub record Running (budget : ℕ) (store out₀ : List ℕ) (s₀ : Session) (ou
   pub count : length done ≡ i
   pub within : i ≤ budget
   pub session : s ≡ turnedAll s₀ done
-  pub output : out ≡ shownAll 0 store out₀ done
+  pub output : out ≡ shownAll s₀ 0 store out₀ done
   pub size : length out ≡ length out₀
   pub reported : descriptions ≡ describedAll done
   pub places : length descriptions ≡ 32
-  pub next : s .window .next ≡ s₀ .window .next + i
+  pub next : s .window .start ≡ s₀ .window .start + i
   pub rest : turns budget s₀ ≡ done ++ turns (budget - i) s
 
 -- before the first answer
 pub run-none : (budget : ℕ) (store out : List ℕ) (s : Session) → Running budget store out s out s 0 (replicate 32 none)
-unfolding turnedAll shownAll describedAll
+unfolding Rules.turnedAll Rules.shownAll describedAll
 run-none budget store out s =
     record {
       done = [];
@@ -45,7 +50,7 @@ module _ (budget : ℕ) (store out₀ : List ℕ) (s₀ : Session) (out : List �
     (running : Running budget store out₀ s₀ out s i descriptions) where
   -- one answer more
   pub run-more : i < budget → budget ≤ 32 → (s′ : Session) (out′ : List ℕ) (d : Description) → (described (turn s) .kind ≡ 0 → ⊥)
-      → s′ ≡ turned s (turn s) → out′ ≡ shown i store out (turn s) → d ≡ described (turn s) → Running budget store out₀ s₀ out′ s′ (i + 1) (set descriptions i d)
+      → s′ ≡ turned s (turn s) → out′ ≡ shown s i store out (turn s) → d ≡ described (turn s) → Running budget store out₀ s₀ out′ s′ (i + 1) (set descriptions i d)
   run-more l m s′ out′ d n es eo ed =
       let ts = running .done in
       let t = turn s in
@@ -54,18 +59,18 @@ module _ (budget : ℕ) (store out₀ : List ℕ) (s₀ : Session) (out : List �
         done = ts ++ (t ∷ []);
         count = length-append ts (t ∷ []) ∙ omega arith;
         within = omega arith;
-        session = es ∙ ap (λ (x : Session). turned x t) (running .session) ∙ sym (turned-last s₀ ts t);
+        session = es ∙ ap (λ (x : Session). turned x t) (running .session) ∙ sym (turned-last one s₀ ts t);
         output =
             let z : i ≡ 0 + length ts = omega arith in
-            eo ∙ (λ k. shown (z k) store (running .output k) t) ∙ sym (shown-last 0 store out₀ ts t);
-        size = ap length eo ∙ shown-length i store out t ∙ running .size;
+            eo ∙ (λ k. shown (running .session k) (z k) store (running .output k) t) ∙ sym (shown-last one s₀ 0 store out₀ ts t);
+        size = ap length eo ∙ shown-length one s i store out t ∙ running .size;
         reported = (λ k. set (running .reported k) (c k) (ed k)) ∙ described-last ts t (omega arith);
         places = length-set descriptions i d ∙ running .places;
-        next = ap (λ (x : Session). x .window .next) es ∙ one-more s t n ∙ omega (arith, running .next);
+        next = ap (λ (x : Session). x .window .start) es ∙ one-more one (λ x. refl) (λ x. refl) s t (some-kind t n) ∙ omega (arith, running .next);
         rest =
             running .rest
             ∙ ap (λ (k : ℕ). ts ++ turns k s) (let e : budget - i ≡ suc (budget - (i + 1)) = omega arith in e)
-            ∙ ap (λ (r : List Turn). ts ++ r) (turns-more (budget - (i + 1)) s t refl n)
+            ∙ ap (λ (r : List Turn). ts ++ r) (turns-more one (budget - (i + 1)) s t refl (some-kind t n))
             ∙ ap (λ (x : Session). ts ++ (t ∷ turns (budget - (i + 1)) x)) (sym es)
             ∙ sym (append-assoc ts (t ∷ []) (turns (budget - (i + 1)) s′));
       }
@@ -74,17 +79,17 @@ module _ (budget : ℕ) (store out₀ : List ℕ) (s₀ : Session) (out : List �
   pub run-done : (out′ : List ℕ) → out′ ≡ out → turns (budget - i) s ≡ []
       → (answered i ≡ answered (length (turns budget s₀)))
       × ((descriptions ≡ describedAll (turns budget s₀))
-      × ((s ≡ turnedAll s₀ (turns budget s₀)) × (out′ ≡ shownAll 0 store out₀ (turns budget s₀))))
+      × ((s ≡ turnedAll s₀ (turns budget s₀)) × (out′ ≡ shownAll s₀ 0 store out₀ (turns budget s₀))))
   run-done out′ eo e =
       let ts = running .done in
       let all : ts ≡ turns budget s₀ = sym (running .rest ∙ ap (λ (r : List Turn). ts ++ r) e ∙ append-nil ts) in (
         ap answered (sym (running .count) ∙ ap length all),
         (
           running .reported ∙ ap describedAll all,
-          (running .session ∙ ap (turnedAll s₀) all, eo ∙ running .output ∙ ap (shownAll 0 store out₀) all),
+          (running .session ∙ ap (turnedAll s₀) all, eo ∙ running .output ∙ ap (shownAll s₀ 0 store out₀) all),
         ),
       )
 
   pub run-spent : budget ≤ i → turns (budget - i) s ≡ []
-  unfolding turns
+  unfolding Rules.turns
   run-spent h = let e : budget - i ≡ 0 = omega arith in ap (λ (k : ℕ). turns k s) e

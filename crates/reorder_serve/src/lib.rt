@@ -2,13 +2,14 @@
 use reorder_session::Session;
 use reorder_turn::Description;
 use reorder_turn::ServeAnswer;
-use window::Window;
 ghost use mathlib.Core.Path.{_≡_};
-ghost use Prim.Native.Nat.{_+_, _≤_, _<_};
+ghost use Prim.Native.Nat.{_≤_, _<_};
 ghost use lib.ListN.{length};
 ghost use Rattle.octets.specs.Refusal.{answered};
-ghost use Rattle.reorder_turn.specs.Turn.{serveSaid, turn, turned, shown, turns, turnedAll, shownAll, describedAll};
-ghost use Rattle.reorder_serve.specs.Serve.{drainSaid, serveOf, drainOf, counted, descriptions, countSaid};
+ghost use Rattle.reorder_session.specs.Calls.{turn, turned, shown, turns, turnedAll, shownAll, Serves, Drains};
+ghost use Rattle.reorder_turn.specs.Answer.{serveSaid};
+ghost use Rattle.reorder_turn.specs.Described.{describedAll};
+ghost use Rattle.reorder_serve.specs.Report.{drainSaid, reportSaid, Reports};
 
 // What a serve answers, and the session then.
 pub struct Served {
@@ -36,34 +37,26 @@ pub struct Drained {
 
 // Serves once where nothing is refused; a packet's bytes go to 1,080 i of the output.
 fn step(session: Session, out: &mut [u8], store: &[u8], i: u32) -> Served
-    requires { ⌜ session .window .next < 4294967295 ⌝ }
+    requires { ⌜ session .window .start < 4294967295 ⌝ }
     requires { ⌜ length (now store) ≡ 34560 ⌝ }
     ensures { λ r. ⌜ (serveSaid (r .answer) ≡ answered (turn session))
         × ((r .session ≡ turned session (turn session))
-        × (now (out .exit) ≡ shown i (now (store .entry)) (now (out .entry)) (turn session))) ⌝ }
+        × (now (out .exit) ≡ shown session i (now (store .entry)) (now (out .entry)) (turn session))) ⌝ }
 {
     let window = session.window;
-    let next = window.next;
-    if window::is_next_held(window) {
+    let next = window.start;
+    if window::is_start_held(window) {
         let from = 1080 * (next % 32) as usize;
         octets::write_into(&store[from..from + 1080], 1080 * i as usize, out);
-        let after = Window {
-            next: next + 1,
-            marks: window::unmark(window.marks, next),
-        };
         return Served {
             answer: ServeAnswer::Packet(next),
-            session: reorder_session::with_window(session, after),
+            session: reorder_session::with_window(session, window::free(window)),
         };
     }
     if window::is_held_ahead(window, session.threshold) {
-        let after = Window {
-            next: next + 1,
-            marks: window.marks,
-        };
         return Served {
             answer: ServeAnswer::Missing(next),
-            session: reorder_session::with_window(session, after),
+            session: reorder_session::with_window(session, window::skip(window)),
         };
     }
     Served {
@@ -74,9 +67,7 @@ fn step(session: Session, out: &mut [u8], store: &[u8], i: u32) -> Served
 
 // Serves the next position.
 pub fn serve(session: Session, out: &mut [u8], store: &[u8]) -> Served
-    ensures { λ r. ⌜ (serveSaid (r .answer) ≡ serveOf session (now (out .entry)) (now (store .entry)) .said)
-        × ((r .session ≡ serveOf session (now (out .entry)) (now (store .entry)) .session)
-        × (now (out .exit) ≡ serveOf session (now (out .entry)) (now (store .entry)) .bytes)) ⌝ }
+    ensures { λ r. ⌜ Serves session (now (out .entry)) (now (store .entry)) (serveSaid (r .answer)) (r .session) (now (out .exit)) ⌝ }
 {
     let n = reorder_turn::serve_refusal(session, store.len(), out.len());
     if n != 0 {
@@ -90,13 +81,13 @@ pub fn serve(session: Session, out: &mut [u8], store: &[u8]) -> Served
 
 // Serves until a serve waits or the budget is spent.
 fn run(session: Session, out: &mut [u8], store: &[u8], budget: u32) -> Drained
-    requires { ⌜ session .window .next ≤ 1000000 ⌝ }
+    requires { ⌜ session .window .start ≤ 1000000 ⌝ }
     requires { ⌜ length (now store) ≡ 34560 ⌝ }
     requires { ⌜ budget ≤ 32 ⌝ }
     ensures { λ r. ⌜ (drainSaid (r .answer .answer) ≡ answered (length (turns budget session)))
         × ((r .answer .descriptions ≡ describedAll (turns budget session))
         × ((r .session ≡ turnedAll session (turns budget session))
-        × (now (out .exit) ≡ shownAll 0 (now (store .entry)) (now (out .entry)) (turns budget session)))) ⌝ }
+        × (now (out .exit) ≡ shownAll session 0 (now (store .entry)) (now (out .entry)) (turns budget session)))) ⌝ }
 {
     let mut now = session;
     let mut i: u32 = 0;
@@ -132,11 +123,8 @@ fn run(session: Session, out: &mut [u8], store: &[u8], budget: u32) -> Drained
 
 // Serves until a serve waits or the budget is spent; the i-th answer is described, and where it is a packet its bytes stand at 1,080 i.
 pub fn drain(session: Session, out: &mut [u8], store: &[u8], budget: u32) -> Drained
-    ensures { λ r. ⌜ (drainSaid (r .answer .answer) ≡ counted (drainOf session (now (out .entry)) (now (store .entry)) budget .said))
-        × ((r .answer .descriptions ≡ descriptions (drainOf session (now (out .entry)) (now (store .entry)) budget .said))
-        × ((r .session ≡ drainOf session (now (out .entry)) (now (store .entry)) budget .session)
-        × ((now (out .exit) ≡ drainOf session (now (out .entry)) (now (store .entry)) budget .bytes)
-        × (r .session .window .next ≡ session .window .next + countSaid (drainSaid (r .answer .answer)))))) ⌝ }
+    ensures { λ r. ⌜ Drains session (now (out .entry)) (now (store .entry)) budget (reportSaid (r .answer)) (r .session) (now (out .exit))
+        × Reports (r .answer) (reportSaid (r .answer)) ⌝ }
 {
     let n = reorder_turn::drain_refusal(session, store.len(), out.len(), budget);
     if n != 0 {

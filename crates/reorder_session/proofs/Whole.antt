@@ -18,7 +18,7 @@ pub record Whole (s : Session) : Type 0 where
   pub threshold-most : s .threshold ≤ 31
   pub word-least : 53 ≤ s .«sum_word»
   pub word-most : s .«sum_word» ≤ 539
-  pub next-most : s .window .next ≤ 1000000
+  pub next-most : s .window .start ≤ 1000000
   pub held-most : (p : ℕ) → heldAt (s .window) p ≡ true → p ≤ 999999
 
 pub whole : (s : Session) → broken s ≡ false → Whole s
@@ -27,7 +27,7 @@ whole s e =
     let c1 = or-neither (ltb 16383 (s .anchor .count)) _ e in
     let c2 = or-neither (outside 1 31 (s .threshold)) _ (c1 .1) in
     let c3 = or-neither (outside 53 539 (s .«sum_word»)) _ (c2 .1) in
-    let c4 = or-neither (ltb 1000000 (s .window .next)) _ (c3 .1) in
+    let c4 = or-neither (ltb 1000000 (s .window .start)) _ (c3 .1) in
     let h = or-neither (ltb (s .threshold) 1) _ (c2 .0) in
     let w = or-neither (ltb (s .«sum_word») 53) _ (c3 .0) in
     record {
@@ -54,6 +54,6 @@ unbroken s v =
       le-ltb 31 (s .threshold) (v .threshold-most),
       le-ltb (s .«sum_word») 53 (v .word-least),
       le-ltb 539 (s .«sum_word») (v .word-most),
-      le-ltb 1000000 (s .window .next) (v .next-most),
+      le-ltb 1000000 (s .window .start) (v .next-most),
       f,
     ) refl

@@ -3,9 +3,11 @@ use Prim.Native.Nat.{ℕ, _*_, _%_}
 use mathlib.Core.Bool.{Bool, _||_}
 use mathlib.Core.List.{List}
 use lib.Dec.{ltb}
-use Rattle.octets.specs.Bytes.{part}
+use Rattle.octets.specs.Bytes.{part, put}
 use Rattle.window.specs.declared.Window.{Window}
-use Rattle.window.specs.Window.{someHeld}
+use Rattle.window.specs.Window.{heldAt, someHeld, holding, freed, skipped}
+use Rattle.reorder_rules.specs.Sizes.{packetSize, positions, endPosition}
+use Rattle.reorder_rules.specs.Buffer.{Buffer}
 use Rattle.reorder_session.specs.declared.Session.{Session}
 
 -- x lies below lo or above hi
@@ -14,7 +16,7 @@ outside lo hi x = ltb x lo || ltb hi x
 
 -- next is over 1,000,000, or a held position over 999,999
 unfoldable pub pastEnd : Window → Bool
-pastEnd w = ltb 1000000 (w .next) || someHeld w 1000000
+pastEnd w = ltb endPosition (w .start) || someHeld w endPosition
 
 -- 30: session broken: c0 over 16,383, H or place out of range, next over 1,000,000, or a held position over 999,999
 unfoldable pub broken : Session → Bool
@@ -23,9 +25,29 @@ broken s = ltb 16383 (s .anchor .count) || (outside 1 31 (s .threshold) || (outs
 abbrev pub withWindow : Session → Window → Session
 withWindow s w = record { anchor = s .anchor; «sum_word» = s .«sum_word»; threshold = s .threshold; window = w }
 
--- held bytes live in a lent store of 34,560 bytes; position p uses the 1,080 from 1,080 × (p mod 32)
+-- "held bytes live in a lent store of 34,560 bytes; position p uses the 1,080 from 1,080 × (p mod 32)"
 abbrev pub slotStart : ℕ → ℕ
-slotStart p = 1080 * (p % 32)
+slotStart p = packetSize * (p % positions)
 
 abbrev pub slot : List ℕ → ℕ → List ℕ
-slot store p = part store (slotStart p) 1080
+slot store p = part store (slotStart p) packetSize
+
+-- What the session says of itself: "a session marks what it holds by p mod 32; a mark means the one such p from next to next + 31". With one
+-- consumer the window starts at its next.
+abbrev pub one : Buffer Session
+one =
+    record {
+      broken = broken;
+      anchor = λ s. s .anchor;
+      word = λ s. s .«sum_word»;
+      start = λ s. s .window .start;
+      held = λ s p. heldAt (s .window) p;
+      some = λ s lo. someHeld (s .window) lo;
+      bytes = λ s store p. slot store p;
+      next = λ s. s .window .start;
+      threshold = λ s. s .threshold;
+      taken = λ s p. withWindow s (holding (s .window) p);
+      stored = λ s store p b. put store (slotStart p) b;
+      given = λ s. withWindow s (freed (s .window));
+      missed = λ s. withWindow s (skipped (s .window));
+    }

@@ -4,11 +4,12 @@ use window::Window;
 ghost use mathlib.Core.Path.{_≡_};
 ghost use Rattle.reorder_session.specs.Session.{pastEnd, broken, withWindow};
 
-// What a reorder buffer keeps between calls; the held bytes live in a store that the caller lends.
+// What a reorder buffer of one consumer keeps between calls; the held bytes live in a store that the caller lends. All its numbers have 32 bits, so
+// that no byte of it is padding. The window starts at next.
 #[repr(C)]
 pub struct Session {
     pub anchor: Anchor,
-    pub sum_word: u16,
+    pub sum_word: u32,
     pub threshold: u32,
     pub window: Window,
 }
@@ -17,10 +18,10 @@ pub struct Session {
 fn is_past_end(window: Window) -> bool
     ensures { λ r. ⌜ r ≡ pastEnd window ⌝ }
 {
-    if 1_000_000 < window.next {
+    if reorder_rules::END < window.start {
         return true;
     }
-    window::is_held_ahead(window, 1_000_000 - window.next)
+    window::is_held_ahead(window, reorder_rules::END - window.start)
 }
 
 // Whether the session is broken: refusal 30.

@@ -1,2 +1,2 @@
-pub mod Turn
-pub mod Refusals
+pub mod Answer
+pub mod Described

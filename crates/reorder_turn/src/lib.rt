@@ -1,8 +1,10 @@
 // What serving the reorder buffer answers: the answers, their descriptions, and the refusals of serve and drain (document 01, "The rack").
 use reorder_session::Session;
 ghost use mathlib.Core.Path.{_≡_};
-ghost use Rattle.reorder_turn.specs.Turn.{turn, isWaiting, serveSaid, describedSaid};
-ghost use Rattle.reorder_turn.specs.Refusals.{serveRefusal, drainRefusal};
+ghost use Rattle.reorder_rules.specs.Turn.{isWaiting};
+ghost use Rattle.reorder_session.specs.Calls.{turn, serveRefusal, drainRefusal};
+ghost use Rattle.reorder_turn.specs.Answer.{serveSaid};
+ghost use Rattle.reorder_turn.specs.Described.{descriptionOf};
 
 // A refusal with its number; the packet at a position; that a position is missing; or that nothing is to be served yet.
 pub enum ServeAnswer {
@@ -20,7 +22,7 @@ pub struct Description {
 
 // The description of an answer; of Waiting and of a refusal, all zeros.
 pub fn describe(answer: ServeAnswer) -> Description
-    ensures { λ r. ⌜ r ≡ describedSaid (serveSaid answer) ⌝ }
+    ensures { λ r. ⌜ r ≡ descriptionOf (serveSaid answer) ⌝ }
 {
     match answer {
         ServeAnswer::Refused(_) => Description {
@@ -47,7 +49,7 @@ pub fn waits(session: Session) -> bool
     ensures { λ r. ⌜ r ≡ isWaiting (turn session) ⌝ }
 {
     let window = session.window;
-    if window::is_next_held(window) {
+    if window::is_start_held(window) {
         return false;
     }
     !window::is_held_ahead(window, session.threshold)
@@ -60,7 +62,7 @@ pub fn serve_refusal(session: Session, store_size: usize, out_size: usize) -> u8
     if reorder_session::is_broken(session) {
         return 30;
     }
-    if store_size != 34_560 {
+    if store_size != reorder_rules::STORE_SIZE {
         return 27;
     }
     if out_size < 1080 {
@@ -76,13 +78,13 @@ pub fn drain_refusal(session: Session, store_size: usize, out_size: usize, budge
     if reorder_session::is_broken(session) {
         return 30;
     }
-    if store_size != 34_560 {
+    if store_size != reorder_rules::STORE_SIZE {
         return 27;
     }
-    if out_size != 34_560 {
+    if out_size != reorder_rules::STORE_SIZE {
         return 29;
     }
-    if 32 < budget {
+    if window::POSITIONS < budget {
         return 31;
     }
     0

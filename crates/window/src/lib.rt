@@ -1,13 +1,17 @@
-// The window of 32 positions from next on, with a mark for each position held (document 01, "The rack").
+// The window of 32 positions from its start on, with a mark for each position held (document 01, "The rack"). With one consumer it starts at
+// the consumer's next.
 ghost use mathlib.Core.Path.{_≡_};
 ghost use Prim.Native.Nat.{_+_, _%_, _^_};
 ghost use Rattle.numbers.specs.Bit.{clearBit};
-ghost use Rattle.window.specs.Window.{heldAt, someHeld, holding, Rotated};
+ghost use Rattle.window.specs.Window.{heldAt, someHeld, holding, freed, skipped, firstWindow, noWindow, in32Bits, Rotated};
 
-// The next position to serve, and the marks: bit p mod 32 for position p.
+// How many positions can be held.
+pub const POSITIONS: u32 = 32;
+
+// The first position of the window, and the marks: bit p mod 32 for position p.
 #[repr(C)]
 pub struct Window {
-    pub next: u32,
+    pub start: u32,
     pub marks: u32,
 }
 
@@ -22,33 +26,33 @@ fn bit_of(p: u32) -> u32
 pub fn is_held(window: Window, p: u32) -> bool
     ensures { λ r. ⌜ r ≡ heldAt window p ⌝ }
 {
-    if p < window.next {
+    if p < window.start {
         return false;
     }
-    if 31 < p - window.next {
+    if 31 < p - window.start {
         return false;
     }
     (window.marks >> (p % 32)) & 1 == 1
 }
 
-// The marks rotated, so that bit j is that of position next + j.
+// The marks rotated, so that bit j is that of position start + j.
 fn rotated(window: Window) -> u32
     ensures { λ r. ⌜ Rotated window r ⌝ }
 {
-    let k = window.next % 32;
+    let k = window.start % 32;
     (window.marks >> k) | (window.marks << ((32 - k) % 32))
 }
 
-// Whether next is held.
-pub fn is_next_held(window: Window) -> bool
-    ensures { λ r. ⌜ r ≡ heldAt window (window .next) ⌝ }
+// Whether the first position of the window is held.
+pub fn is_start_held(window: Window) -> bool
+    ensures { λ r. ⌜ r ≡ heldAt window (window .start) ⌝ }
 {
     rotated(window) & 1 == 1
 }
 
-// Whether a position at least so far ahead of next is held: the furthest held has the fewest zeros before it.
+// Whether a position at least so far ahead of the start is held: the furthest held has the fewest zeros before it.
 pub fn is_held_ahead(window: Window, least: u32) -> bool
-    ensures { λ r. ⌜ r ≡ someHeld window (window .next + least) ⌝ }
+    ensures { λ r. ⌜ r ≡ someHeld window (window .start + least) ⌝ }
 {
     if 31 < least {
         return false;
@@ -61,14 +65,48 @@ pub fn hold(window: Window, p: u32) -> Window
     ensures { λ r. ⌜ r ≡ holding window p ⌝ }
 {
     Window {
-        next: window.next,
+        start: window.start,
         marks: window.marks | bit_of(p),
     }
 }
 
 // The marks without that of position p.
-pub fn unmark(marks: u32, p: u32) -> u32
+fn unmark(marks: u32, p: u32) -> u32
     ensures { λ r. ⌜ r ≡ clearBit marks (p % 32) ⌝ }
 {
     marks & !bit_of(p)
+}
+
+// The window once its first position, which may be held, is freed.
+pub fn free(window: Window) -> Window
+    ensures { λ r. ⌜ r ≡ in32Bits (freed window) ⌝ }
+{
+    Window {
+        start: std::num::wrapping_add_u32(window.start, 1),
+        marks: unmark(window.marks, window.start),
+    }
+}
+
+// The window once its first position, which isn't held, is passed over.
+pub fn skip(window: Window) -> Window
+    ensures { λ r. ⌜ r ≡ in32Bits (skipped window) ⌝ }
+{
+    Window {
+        start: std::num::wrapping_add_u32(window.start, 1),
+        marks: window.marks,
+    }
+}
+
+// The window of an opening: it starts at position 0, which is held.
+pub fn first() -> Window
+    ensures { λ r. ⌜ r ≡ firstWindow ⌝ }
+{
+    Window { start: 0, marks: 1 }
+}
+
+// A window of all zeros.
+pub fn none() -> Window
+    ensures { λ r. ⌜ r ≡ noWindow ⌝ }
+{
+    Window { start: 0, marks: 0 }
 }

@@ -36,7 +36,7 @@ module _ (k : tie.After-struct-known) where
   abbrev apart : ℤ
   apart = pos 14 *ℤ p -ℤ elapsed
 
-  counted-range : Range 131072 counted
+  counted-range : Range 4295032832 counted
   counted-range = of-difference (of-unsigned (a .fits .count)) (of-unsigned (k .struct-known .given .0))
 
   elapsed-range : Range 8589934592 elapsed
@@ -45,22 +45,22 @@ module _ (k : tie.After-struct-known) where
   late-range : Range 12884901888 late
   late-range = of-sum elapsed-range (of-unsigned (a .fits .tolerance))
 
-  due-range : Range 1835008 (pos 14 *ℤ counted)
+  due-range : Range 60130459648 (pos 14 *ℤ counted)
   due-range = of-multiple 14 counted-range
 
-  rest-range : Range 12886736896 rest
+  rest-range : Range 73015361536 rest
   rest-range = of-difference late-range due-range
 
-  rounds-range : Range 211136297304064 (pos 16384 *ℤ shrZ rest 229376)
+  rounds-range : Range 1196283683405824 (pos 16384 *ℤ shrZ rest 229376)
   rounds-range = of-multiple 16384 (of-floor 229376 rest-range)
 
-  p-range : Range 211136297435136 p
+  p-range : Range 1196287978438656 p
   p-range = of-sum counted-range rounds-range
 
-  p-due-range : Range 2955908164091904 (pos 14 *ℤ p)
+  p-due-range : Range 16748031698141184 (pos 14 *ℤ p)
   p-due-range = of-multiple 14 p-range
 
-  apart-range : Range 2955916754026496 apart
+  apart-range : Range 16748040288075776 apart
   apart-range = of-difference p-due-range elapsed-range
 
   -- what the machine computes of the arguments

@@ -10,9 +10,11 @@ use Rattle.packet_check.specs.Refusal.{readRefusal}
 use Rattle.packet.specs.declared.PacketAnswer.{PacketAnswer}
 use Rattle.packet.specs.Fields.{fieldsOf}
 use Rattle.packet.specs.Read.{said}
-use Rattle.reorder_session.specs.Session.{broken}
-use Rattle.reorder_admission.specs.Admission.{admitted, positionOf, offerRefusal, offerSaid}
-use Rattle.reorder_session.proofs.Said.{refusing-now, refusing-next}
+use Rattle.window.specs.Window.{heldAt}
+use Rattle.reorder_rules.specs.Offer.{admitted, offerRefusal, offerDue}
+use Rattle.reorder_rules.proofs.Said.{refusing-now, refusing-next}
+use Rattle.reorder_session.specs.Session.{broken, one}
+use Rattle.reorder_session.specs.Calls.{positionOf}
 use Rattle.reorder_admission.proofs.Handed.{handed-on}
 use borrow.Author.Needs.{needs}
 use Rattle.reorder_admission.proofs.offer_answer.Statement.{statement}
@@ -24,7 +26,7 @@ whole c = ap not (sym (c .before .is-broken .ensures) ∙ c .if1 .left)
 
 ready : (c : tie.Else2) (r : ℕ) → let k = c .before .before .before .before in
     r ≡ readRefusal (now (k .args .packet)) (k .args .session .«sum_word»)
-    → r ≡ offerRefusal (k .args .session) (k .args .store-size) (now (k .args .packet))
+    → r ≡ offerRefusal one (k .args .session) (k .args .store-size) (now (k .args .packet))
 unfolding offerRefusal
 ready c r e = pass _ 30 _ r (whole (c .before)) (pass-eq _ _ 27 _ r (c .if2 .left) e)
 
@@ -32,11 +34,11 @@ is-broken-requires : tie.Need-is-broken-requires
 is-broken-requires c κs = search needs
 
 returns : tie.Need-returns
-unfolding offerRefusal offerSaid
+unfolding offerRefusal offerDue
 returns c = refusing-now 30 _ _ (fail _ 30 _ (ap not (sym (c .before .is-broken .ensures) ∙ c .if1 .taken))) (λ q. omega arith)
 
 returns-2 : tie.Need-returns-2
-unfolding offerRefusal offerSaid
+unfolding offerRefusal offerDue
 returns-2 c = refusing-now 27 _ _ (pass _ 30 _ 27 (whole (c .before)) (fail-eq _ _ 27 _ (c .if2 .taken))) (λ q. omega arith)
 
 cast-read-answer : tie.Need-cast-read-answer
@@ -55,7 +57,7 @@ refusal-number-requires : tie.Need-refusal-number-requires
 refusal-number-requires c κs = search needs
 
 returns-3 : tie.Need-returns-3
-unfolding offerRefusal offerSaid
+unfolding offerRefusal offerDue
 returns-3 c =
     let t = c .before .enum-told .given .1 in
     let a = c .before .before .before in
@@ -69,7 +71,7 @@ position-answer-requires : tie.Need-position-answer-requires
 position-answer-requires c κs = search needs
 
 returns-4 : tie.Need-returns-4
-unfolding offerRefusal offerSaid
+unfolding offerRefusal offerDue
 returns-4 c =
     let t = c .before .before .before .answer .given .1 in
     let a = c .before .before .before .before .before in
@@ -77,7 +79,7 @@ returns-4 c =
     let b = now (a .before .before .before .before .before .before .args .packet) in
     let r = answer-said (readRefusal b (s .«sum_word»)) (fieldsOf b) _ (ap said (sym t) ∙ a .read-answer .ensures) in
     refusing-next _ _ _ (sym (ready (a .before .before) 0 (sym (r .0))))
-    (c .position-answer .ensures ∙ ap (admitted (s .window)) (c .before .locate .ensures ∙ ap (positionOf s) (r .1)))
+    (c .position-answer .ensures ∙ ap (admitted (s .window .start) (heldAt (s .window))) (c .before .locate .ensures ∙ ap (positionOf s) (r .1)))
 
 pub offer-answer-spec : {M : Type 1} → statement M
 offer-answer-spec =

@@ -5,10 +5,12 @@ use mathlib.Core.List.{[]}
 use native.Mathlib.Omega.{arith}
 use borrow.Author.Tests.{eq-eqb, ne-eqb}
 use Rattle.octets.proofs.Ladder.{pass, fail, say-refused, say-answered}
-use Rattle.reorder_session.specs.Session.{broken}
+use Rattle.window.specs.Window.{skipped}
+use Rattle.window.proofs.Held.{has-32-bits}
+use Rattle.reorder_rules.specs.Pass.{passRefusal, passOf}
+use Rattle.reorder_rules.proofs.Said.{stays, leaves}
+use Rattle.reorder_session.specs.Session.{broken, withWindow, one}
 use Rattle.reorder_session.proofs.Whole.{whole}
-use Rattle.reorder_session.proofs.Said.{stays, leaves}
-use Rattle.reorder_pass.specs.Pass.{passRefusal, passOf}
 use borrow.Author.Needs.{needs}
 use Rattle.reorder_pass.proofs.pass.Statement.{statement}
 use Rattle.reorder_pass.proofs.pass.Tie as tie
@@ -22,47 +24,39 @@ is-broken-requires c κs = search needs
 returns : tie.Need-returns
 unfolding passOf passRefusal
 returns c =
-    let n : 30 ≡ passRefusal (c .before .before .args .session) = fail _ 30 _ (ap not (sym (c .before .is-broken .ensures) ∙ c .if1 .taken)) in
-    let r = stays _ _ _ _ _ _ (say-refused _ _ _ n (λ q. omega arith)) in
-    (r .0, r .1 .0)
+    let n : 30 ≡ passRefusal one (c .before .before .args .session) = fail _ 30 _ (ap not (sym (c .before .is-broken .ensures) ∙ c .if1 .taken)) in
+    stays _ _ _ _ _ _ (say-refused _ _ _ n (λ q. omega arith))
 
 returns-2 : tie.Need-returns-2
 unfolding passOf passRefusal
 returns-2 c =
-    let n : 28 ≡ passRefusal (c .before .before .before .before .args .session) =
+    let n : 28 ≡ passRefusal one (c .before .before .before .before .args .session) =
     pass _ 30 _ 28 (ap not (unbroken (c .before .before))) (fail _ 28 _ (ap not (eq-eqb _ _ (c .if2 .taken)))) in
-    let r = stays _ _ _ _ _ _ (say-refused _ _ _ n (λ q. omega arith)) in
-    (r .0, r .1 .0)
+    stays _ _ _ _ _ _ (say-refused _ _ _ n (λ q. omega arith))
 
-is-next-held-requires : tie.Need-is-next-held-requires
-is-next-held-requires c κs = search needs
+is-start-held-requires : tie.Need-is-start-held-requires
+is-start-held-requires c κs = search needs
 
 returns-3 : tie.Need-returns-3
 unfolding passOf passRefusal
 returns-3 c =
     let k = c .before .before in
-    let held = sym (c .before .is-next-held .ensures) ∙ c .if3 .taken in
-    let n : 26 ≡ passRefusal (k .before .before .before .before .args .session) =
+    let held = sym (c .before .is-start-held .ensures) ∙ c .if3 .taken in
+    let n : 26 ≡ passRefusal one (k .before .before .before .before .args .session) =
     pass _ 30 _ 26 (ap not (unbroken (k .before .before))) (pass _ 28 _ 26 (ap not (ne-eqb _ _ (k .if2 .left))) (fail _ 26 _ (ap not held))) in
-    let r = stays _ _ _ _ _ _ (say-refused _ _ _ n (λ q. omega arith)) in
-    (r .0, r .1 .0)
-
-add-t11 : tie.Need-add-t11
-add-t11 c = omega (arith, whole _ (unbroken (c .before .before .before .before)) .next-most)
-
-with-window-requires : tie.Need-with-window-requires
-with-window-requires c κs = search needs
+    stays _ _ _ _ _ _ (say-refused _ _ _ n (λ q. omega arith))
 
 returns-4 : tie.Need-returns-4
 unfolding passOf passRefusal
 returns-4 c =
-    let h = c .before .before in
+    let h = c .before .before .before in
     let k = h .before in
-    let free = sym (h .is-next-held .ensures) ∙ c .before .if3 .left in
-    let n : 0 ≡ passRefusal (k .before .before .before .before .args .session) =
+    let s = k .before .before .before .before .args .session in
+    let free = sym (h .is-start-held .ensures) ∙ c .before .before .if3 .left in
+    let n : 0 ≡ passRefusal one s =
     pass _ 30 _ 0 (ap not (unbroken (k .before .before))) (pass _ 28 _ 0 (ap not (ne-eqb _ _ (k .if2 .left))) (pass _ 26 _ 0 (ap not free) refl)) in
-    let r = leaves _ [] _ _ _ _ _ [] (say-answered _ _ _ (sym n) refl) (c .with-window .ensures) refl in
-    (r .0, r .1 .0)
+    let small = has-32-bits (skipped (s .window)) (omega (arith, whole _ (unbroken (k .before .before)) .next-most)) in
+    leaves _ [] _ _ _ _ _ [] (say-answered _ _ _ (sym n) refl) (c .with-window .ensures ∙ ap (withWindow s) (c .before .skip .ensures ∙ small)) refl
 
 pub pass-spec : {M : Type 1} → statement M
 pass-spec =
@@ -71,8 +65,8 @@ pass-spec =
     is-broken-requires
     returns
     returns-2
-    is-next-held-requires
+    is-start-held-requires
     returns-3
-    add-t11
-    with-window-requires
+    (λ c κs. search needs)
+    (λ c κs. search needs)
     returns-4)

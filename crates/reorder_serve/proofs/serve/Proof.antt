@@ -4,11 +4,12 @@ use native.Mathlib.Omega.{arith}
 use denote.Ref.{now}
 use lib.ListN.{length}
 use Rattle.octets.proofs.Ladder.{say-refused, say-answered}
-use Rattle.reorder_session.proofs.Said.{stays, leaves}
-use Rattle.reorder_turn.specs.Turn.{turn}
-use Rattle.reorder_turn.specs.Refusals.{serveRefusal}
-use Rattle.reorder_serve.specs.Serve.{serveOf}
-use Rattle.reorder_turn.proofs.Ready.{ServeReady, serve-ready}
+use Rattle.reorder_rules.specs.Serve.{serveOf}
+use Rattle.reorder_rules.proofs.Said.{stays, leaves, comes-by}
+use Rattle.reorder_rules.proofs.Ready.{ServeReady, serve-ready}
+use Rattle.reorder_session.specs.Session.{one}
+use Rattle.reorder_session.specs.Calls.{turn, serveRefusal}
+use Rattle.reorder_session.proofs.Whole.{whole}
 use borrow.Author.Needs.{needs}
 use Rattle.reorder_serve.proofs.serve.Statement.{statement}
 use Rattle.reorder_serve.proofs.serve.Tie as tie
@@ -16,8 +17,8 @@ use Rattle.reorder_serve.proofs.serve.Tie as tie
 passes : (c : tie.Else1) → let a = c .before .before .before .before .args in serveRefusal (a .session) (length (now (a .store))) (length (now (a .out))) ≡ 0
 passes c = sym (c .before .serve-refusal .ensures) ∙ c .if1 .left
 
-ready : (c : tie.Else1) → let a = c .before .before .before .before .args in ServeReady (a .session) (length (now (a .store))) (length (now (a .out)))
-ready c = serve-ready _ _ _ (passes c)
+ready : (c : tie.Else1) → let a = c .before .before .before .before .args in ServeReady one (a .session) (length (now (a .store))) (length (now (a .out)))
+ready c = serve-ready one _ _ _ (passes c)
 
 serve-refusal-requires : tie.Need-serve-refusal-requires
 serve-refusal-requires c κs = search needs
@@ -31,7 +32,7 @@ returns c =
 step-requires : tie.Need-step-requires
 step-requires c κs =
     let r = ready (c .before) in
-    (omega (arith, r .sound .next-most), r .store)
+    (omega (arith, whole _ (r .unbroken) .next-most), r .store)
 
 same-length : tie.Need-same-length
 same-length c = search needs
@@ -42,8 +43,7 @@ returns-2 c =
     let e = c .before .before .step .ensures in
     let k = c .before .before .before .before in
     let a = k .before .before .before .before .args in
-    let l = leaves _ _ _ _ _ _ _ _ (say-answered _ (turn (a .session)) _ (passes k) refl) (e .1 .0) (e .1 .1) in
-    (e .0 ∙ l .0, l .1)
+    comes-by (leaves _ _ _ _ _ _ _ _ (say-answered _ (turn (a .session)) _ (passes k) refl) (e .1 .0) (e .1 .1)) (e .0) refl refl
 
 pub serve-spec : {M : Type 1} → statement M
 serve-spec =

@@ -7,21 +7,31 @@ use native.Mathlib.Omega.{arith}
 use denote.Ref.{now}
 use lib.ListN.{take, drop}
 use Rattle.octets.specs.Bytes.{part, put}
-use Rattle.window.specs.Window.{heldAt}
-use Rattle.reorder_session.specs.Session.{withWindow, slotStart}
-use Rattle.reorder_turn.proofs.Turns.{turn-packet, turn-missing, turn-waiting, did}
+use Rattle.octets.specs.Refusal.{answered}
+use Rattle.window.specs.Window.{heldAt, freed, skipped}
+use Rattle.window.proofs.Held.{has-32-bits}
+use Rattle.reorder_rules.specs.Turn.{Turn}
+use Rattle.reorder_rules.proofs.Turns.{turn-packet, turn-missing, turn-waiting}
+use Rattle.reorder_session.specs.declared.Session.{Session}
+use Rattle.reorder_session.specs.Session.{withWindow, slotStart, one}
+use Rattle.reorder_session.specs.Calls.{turn, turned, shown}
 use borrow.Author.Needs.{needs}
 use Rattle.reorder_serve.proofs.step.Statement.{statement}
 use Rattle.reorder_serve.proofs.step.Tie as tie
 
+-- what serving once comes to, by its turn
+did : (s : Session) (i : ℕ) (store out : List ℕ) (t : Turn) (s′ : Session) (out′ : List ℕ) → turn s ≡ t → s′ ≡ turned s t → out′ ≡ shown s i store out t
+    → (answered t ≡ answered (turn s)) × ((s′ ≡ turned s (turn s)) × (out′ ≡ shown s i store out (turn s)))
+did s i store out t s′ out′ e a b = (ap answered (sym e), (a ∙ ap (turned s) (sym e), b ∙ ap (shown s i store out) (sym e)))
+
 part-is : (i n : ℕ) (s : List ℕ) → take ((i + n) - i) (drop i s) ≡ part s i n
 part-is i n s = let e : (i + n) - i ≡ n = omega arith in ap (λ (k : ℕ). take k (drop i s)) e
 
-free : (c : tie.Else1) → let w = c .before .before .before .before .before .args .session .window in heldAt w (w .next) ≡ false
-free c = sym (c .before .is-next-held .ensures) ∙ c .if1 .left
+free : (c : tie.Else1) → let w = c .before .before .before .before .before .args .session .window in heldAt w (w .start) ≡ false
+free c = sym (c .before .is-start-held .ensures) ∙ c .if1 .left
 
-is-next-held-requires : tie.Need-is-next-held-requires
-is-next-held-requires c κs = search needs
+is-start-held-requires : tie.Need-is-start-held-requires
+is-start-held-requires c κs = search needs
 
 cast-from : tie.Need-cast-from
 cast-from c = search needs
@@ -47,11 +57,8 @@ mul-write-into c = search needs
 write-into-requires : tie.Need-write-into-requires
 write-into-requires c κs = search needs
 
-add-t11 : tie.Need-add-t11
-add-t11 c = search needs
-
-unmark-requires : tie.Need-unmark-requires
-unmark-requires c κs = search needs
+free-requires : tie.Need-free-requires
+free-requires c κs = search needs
 
 with-window-requires : tie.Need-with-window-requires
 with-window-requires c κs = search needs
@@ -63,42 +70,46 @@ returns : tie.Need-returns
 returns c =
     let w = c .before .before .before .before in
     let t = w .before .before .before in
-    let a = t .before .before .before .before .before .args in
+    let k = t .before .before .before .before .before in
+    let a = k .args in
     let s = a .session in
-    let from = slotStart (s .window .next) in
+    let from = slotStart (s .window .start) in
     did s (a .i) (now (a .store)) (now (a .out)) _ _ _
-    (turn-packet s (sym (t .before .is-next-held .ensures) ∙ t .if1 .taken))
-    (c .with-window .ensures ∙ ap (λ (m : ℕ). withWindow s (record { next = s .window .next + 1; marks = m })) (c .before .unmark .ensures))
+    (turn-packet one s (sym (t .before .is-start-held .ensures) ∙ t .if1 .taken))
+    (c .with-window .ensures ∙ ap (withWindow s) (c .before .free .ensures ∙ has-32-bits (freed (s .window)) (omega (arith, k .pre .0))))
     (w .write-into .ensures ∙ ap (put (now (a .out)) (1080 * a .i)) (part-is from 1080 (now (a .store))))
 
 is-held-ahead-requires : tie.Need-is-held-ahead-requires
 is-held-ahead-requires c κs = search needs
 
-add-t26 : tie.Need-add-t26
-add-t26 c = search needs
+skip-requires : tie.Need-skip-requires
+skip-requires c κs = search needs
 
 with-window-requires-2 : tie.Need-with-window-requires-2
 with-window-requires-2 c κs = search needs
 
 returns-2 : tie.Need-returns-2
 returns-2 c =
-    let a = c .before .before .before .before .before .before .before .before .args in
-    did (a .session) (a .i) (now (a .store)) (now (a .out)) _ _ _
-    (turn-missing (a .session) (free (c .before .before .before)) (sym (c .before .before .is-held-ahead .ensures) ∙ c .before .if2 .taken))
-    (c .with-window2 .ensures) refl
+    let h = c .before .before .before in
+    let k = h .before .before .before .before .before .before in
+    let a = k .args in
+    let s = a .session in
+    did s (a .i) (now (a .store)) (now (a .out)) _ _ _
+    (turn-missing one s (free (h .before)) (sym (h .is-held-ahead .ensures) ∙ c .before .before .if2 .taken))
+    (c .with-window2 .ensures ∙ ap (withWindow s) (c .before .skip .ensures ∙ has-32-bits (skipped (s .window)) (omega (arith, k .pre .0)))) refl
 
 returns-3 : tie.Need-returns-3
 returns-3 c =
     let a = c .before .before .before .before .before .before .before .args in
     did (a .session) (a .i) (now (a .store)) (now (a .out)) _ _ _
-    (turn-waiting (a .session) (free (c .before .before)) (sym (c .before .is-held-ahead .ensures) ∙ c .if2 .left))
+    (turn-waiting one (a .session) (free (c .before .before)) (sym (c .before .is-held-ahead .ensures) ∙ c .if2 .left))
     refl refl
 
 pub step-spec : {M : Type 1} → statement M
 step-spec =
     tie.close
     (tie.spec
-    is-next-held-requires
+    is-start-held-requires
     cast-from
     mul-from
     add-write-into
@@ -107,13 +118,12 @@ step-spec =
     part-write-into-end
     mul-write-into
     write-into-requires
-    add-t11
-    unmark-requires
+    free-requires
     with-window-requires
     same-length
     returns
     is-held-ahead-requires
-    add-t26
+    skip-requires
     with-window-requires-2
     returns-2
     returns-3)

@@ -11,7 +11,7 @@ use Rattle.reorder_session.proofs.is_past_end.Tie as tie
 
 returns : tie.Need-returns
 unfolding pastEnd
-returns c = rw (lt-ltb 1000000 (c .before .before .args .window .next) (c .if1 .taken)) refl
+returns c = rw (lt-ltb 1000000 (c .before .before .args .window .start) (c .if1 .taken)) refl
 
 is-held-ahead-requires : tie.Need-is-held-ahead-requires
 is-held-ahead-requires c κs = search needs
@@ -20,8 +20,8 @@ returns-2 : tie.Need-returns-2
 unfolding pastEnd
 returns-2 c =
     let w = c .before .before .before .before .args .window in
-    let e : w .next + (1000000 - w .next) ≡ 1000000 = omega arith in
-    rw (le-ltb 1000000 (w .next) (c .before .before .if1 .left)) (c .is-held-ahead .ensures ∙ ap (someHeld w) e)
+    let e : w .start + (1000000 - w .start) ≡ 1000000 = omega arith in
+    rw (le-ltb 1000000 (w .start) (c .before .before .if1 .left)) (c .is-held-ahead .ensures ∙ ap (someHeld w) e)
 
 pub is-past-end-spec : {M : Type 1} → statement M
 is-past-end-spec = tie.close (tie.spec returns is-held-ahead-requires returns-2)

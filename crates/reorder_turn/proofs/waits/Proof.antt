@@ -4,22 +4,24 @@ use mathlib.Core.Path.{_≡_, sym, ap, _∙_}
 use mathlib.Core.Bool.{Bool, true, false, not}
 use Rattle.window.specs.Window.{heldAt, someHeld}
 use Rattle.reorder_session.specs.declared.Session.{Session}
-use Rattle.reorder_turn.specs.Turn.{turn, isWaiting}
-use Rattle.reorder_turn.proofs.Turns.{turn-packet, turn-missing, turn-waiting}
+use Rattle.reorder_session.specs.Session.{one}
+use Rattle.reorder_session.specs.Calls.{turn}
+use Rattle.reorder_rules.specs.Turn.{isWaiting}
+use Rattle.reorder_rules.proofs.Turns.{turn-packet, turn-missing, turn-waiting}
 use borrow.Author.Needs.{needs}
 use Rattle.reorder_turn.proofs.waits.Statement.{statement}
 use Rattle.reorder_turn.proofs.waits.Tie as tie
 
-by-ahead : (s : Session) → heldAt (s .window) (s .window .next) ≡ false → (b : Bool) → someHeld (s .window) (s .window .next + s .threshold) ≡ b
+by-ahead : (s : Session) → heldAt (s .window) (s .window .start) ≡ false → (b : Bool) → someHeld (s .window) (s .window .start + s .threshold) ≡ b
     → not b ≡ isWaiting (turn s)
-by-ahead s free true e = ap isWaiting (sym (turn-missing s free e))
-by-ahead s free false e = ap isWaiting (sym (turn-waiting s free e))
+by-ahead s free true e = ap isWaiting (sym (turn-missing one s free e))
+by-ahead s free false e = ap isWaiting (sym (turn-waiting one s free e))
 
-is-next-held-requires : tie.Need-is-next-held-requires
-is-next-held-requires c κs = search needs
+is-start-held-requires : tie.Need-is-start-held-requires
+is-start-held-requires c κs = search needs
 
 returns : tie.Need-returns
-returns c = ap isWaiting (sym (turn-packet (c .before .before .before .args .session) (sym (c .before .is-next-held .ensures) ∙ c .if1 .taken)))
+returns c = ap isWaiting (sym (turn-packet one (c .before .before .before .args .session) (sym (c .before .is-start-held .ensures) ∙ c .if1 .taken)))
 
 is-held-ahead-requires : tie.Need-is-held-ahead-requires
 is-held-ahead-requires c κs = search needs
@@ -27,7 +29,7 @@ is-held-ahead-requires c κs = search needs
 returns-2 : tie.Need-returns-2
 returns-2 c =
     by-ahead (c .before .before .before .before .args .session)
-    (sym (c .before .before .is-next-held .ensures) ∙ c .before .if1 .left) (c .is-held-ahead .result) (sym (c .is-held-ahead .ensures))
+    (sym (c .before .before .is-start-held .ensures) ∙ c .before .if1 .left) (c .is-held-ahead .result) (sym (c .is-held-ahead .ensures))
 
 pub waits-spec : {M : Type 1} → statement M
-waits-spec = tie.close (tie.spec is-next-held-requires returns is-held-ahead-requires returns-2)
+waits-spec = tie.close (tie.spec is-start-held-requires returns is-held-ahead-requires returns-2)

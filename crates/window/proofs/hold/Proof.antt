@@ -14,7 +14,7 @@ returns : tie.Need-returns
 returns c =
     let w = c .before .before .args .window in
     let m = ap (bitOr (w .marks)) (c .before .bit-of .ensures) ∙ set-bit (w .marks) (c .before .before .args .p % 32) in
-    λ i. record { next = w .next; marks = m i }
+    λ i. record { start = w .start; marks = m i }
 
 pub hold-spec : {M : Type 1} → statement M
 hold-spec = tie.close (tie.spec bit-of-requires returns)

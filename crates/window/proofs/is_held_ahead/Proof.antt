@@ -1,4 +1,4 @@
--- By the leading zeros of the rotated word; nothing is held from next + 32 on.
+-- By the leading zeros of the rotated word; nothing is held from start + 32 on.
 use mathlib.Core.Path.{sym}
 use native.Mathlib.Omega.{arith}
 use lib.Count.{leading-le}

@@ -21,8 +21,8 @@ returns : tie.Need-returns
 returns c =
     λ j h.
     let w = c .before .before .before .args .window in
-    let e : (w .next % 32 + j) % 32 ≡ (w .next + j) % 32 = omega arith in
-    rotated-bit (w .marks) (w .next % 32) j (c .struct-known3 .given .1 .0 .fits) (omega arith) h ∙ ap (bit (w .marks)) e
+    let e : (w .start % 32 + j) % 32 ≡ (w .start + j) % 32 = omega arith in
+    rotated-bit (w .marks) (w .start % 32) j (c .struct-known3 .given .1 .0 .fits) (omega arith) h ∙ ap (bit (w .marks)) e
 
 pub rotated-spec : {M : Type 1} → statement M
 rotated-spec = tie.close (tie.spec shr-result sub-result shl-result returns)

@@ -1,0 +1,98 @@
+-- The ladder of refusals, the reader's answer, and what an accepted packet opens.
+use Prim.Native.Nat.{ℕ}
+use mathlib.Core.Path.{_≡_, refl, sym, ap, _∙_}
+use native.Mathlib.Omega.{arith}
+use denote.Ref.{now}
+use lib.ListN.{length}
+use Rattle.octets.specs.Refusal.{numberSaid}
+use Rattle.octets.proofs.Ladder.{pass-eq, fail-eq, pass-within, fail-below, fail-above, say-refused, say-answered, answer-said}
+use Rattle.packet_check.specs.Refusal.{readRefusal}
+use Rattle.packet_check.proofs.Accept.{accepted}
+use Rattle.packet.specs.declared.PacketAnswer.{PacketAnswer}
+use Rattle.packet.specs.Fields.{fieldsOf}
+use Rattle.packet.specs.Read.{said}
+use Rattle.reorder_offer.specs.Opening.{opened, openRefusal, openDue, openOf}
+use Rattle.reorder_rules.proofs.Said.{stays, leaves}
+use Rattle.reorder_session.specs.Session.{withWindow}
+use Rattle.reorder_admission.proofs.Handed.{handed-on}
+use borrow.Author.Needs.{needs}
+use Rattle.reorder_offer.proofs.open_or.Statement.{statement}
+use Rattle.reorder_offer.proofs.open_or.Tie as tie
+
+-- threshold and store are in order: the ladder goes on with the reader's number
+ready : (c : tie.Else3) (r : ℕ) → let k = c .before .before .before .before .before .args in
+    r ≡ readRefusal (now (k .packet)) (k .sum-word) → r ≡ openRefusal (length (now (k .store))) (now (k .packet)) (k .threshold) (k .sum-word)
+unfolding openRefusal
+ready c r e = pass-within 1 31 _ 20 _ r (c .before .before .if1 .left) (c .before .if2 .left) (pass-eq _ _ 27 _ r (c .if3 .left) e)
+
+returns : tie.Need-returns
+unfolding openRefusal openDue openOf
+returns c =
+    stays _ _ _ _ 20 _ (say-refused {A = ℕ} 20 _ 0 (fail-below 1 31 _ 20 _ (c .if1 .taken)) (λ q. omega arith))
+
+returns-2 : tie.Need-returns-2
+unfolding openRefusal openDue openOf
+returns-2 c =
+    stays _ _ _ _ 20 _ (say-refused {A = ℕ} 20 _ 0 (fail-above 1 31 _ 20 _ (c .before .if1 .left) (c .if2 .taken)) (λ q. omega arith))
+
+returns-3 : tie.Need-returns-3
+unfolding openRefusal openDue openOf
+returns-3 c =
+    stays _ _ _ _ 27 _ (say-refused {A = ℕ} 27 _ 0 (pass-within 1 31 _ 20 _ 27 (c .before .before .if1 .left) (c .before .if2 .left) (fail-eq _ _ 27 _ (c .if3 .taken))) (λ q. omega arith))
+
+read-answer-requires : tie.Need-read-answer-requires
+read-answer-requires c κs = search needs
+
+enum-known-answer : tie.Need-enum-known-answer
+enum-known-answer c = search needs
+
+enum-told : tie.Need-enum-told
+enum-told c = search needs
+
+refusal-number-requires : tie.Need-refusal-number-requires
+refusal-number-requires c κs = search needs
+
+returns-4 : tie.Need-returns-4
+unfolding openRefusal openDue openOf
+returns-4 c =
+    let t = c .before .enum-told .given .1 in
+    let a = c .before .before .before in
+    let h = handed-on _ _ _ _ (ap said (sym t) ∙ a .read-answer .ensures) (c .refusal-number .ensures ∙ ap (λ (x : PacketAnswer). numberSaid (said x)) t) in
+    stays _ _ _ _ _ _ (say-refused {A = ℕ} _ _ 0 (ready (a .before) _ (h .0)) (h .1))
+
+put-packet-requires : tie.Need-put-packet-requires
+put-packet-requires c κs =
+    let t = c .before .before .answer .given .1 in
+    let a = c .before .before .before .before in
+    let k = a .before .before .before .before .before .before .args in
+    let r = answer-said (readRefusal (now (k .packet)) (k .sum-word)) (fieldsOf (now (k .packet))) _ (ap said (sym t) ∙ a .read-answer .ensures) in
+    accepted (now (k .packet)) (k .sum-word) (r .0) .size
+
+returns-5 : tie.Need-returns-5
+unfolding openRefusal openDue openOf
+returns-5 c =
+    let w = c .before .before .before .before in
+    let t = w .before .before .before .answer .given .1 in
+    let a = w .before .before .before .before .before in
+    let k = a .before .before .before .before .before .before .args in
+    let r = answer-said (readRefusal (now (k .packet)) (k .sum-word)) (fieldsOf (now (k .packet))) _ (ap said (sym t) ∙ a .read-answer .ensures) in
+    leaves _ _ _ _ 0 _ _ _ (say-answered {A = ℕ} _ 0 0 (sym (ready (a .before) 0 (sym (r .0)))) refl)
+    (λ i. withWindow (opened (r .1 i) (k .threshold) (k .sum-word)) (c .first .ensures i)) (w .put-packet .ensures)
+
+pub open-or-spec : {M : Type 1} → statement M
+open-or-spec =
+    tie.close
+    (tie.spec
+    returns
+    returns-2
+    returns-3
+    read-answer-requires
+    enum-known-answer
+    enum-told
+    refusal-number-requires
+    returns-4
+    put-packet-requires
+    (λ c. search needs)
+    (λ c κs. search needs)
+    (λ c. search needs)
+    returns-5)

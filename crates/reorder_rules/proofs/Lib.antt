@@ -1,0 +1,6 @@
+pub mod Said
+pub mod Admitting
+pub mod Taken
+pub mod Free
+pub mod Ready
+pub mod Turns

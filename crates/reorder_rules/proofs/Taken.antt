@@ -1,0 +1,74 @@
+-- What holds where an offer takes the packet.
+use Prim.Native.Nat.{ℕ, _+_, _≤_}
+use mathlib.Core.Path.{_≡_, refl, sym, ap, _∙_, subst}
+use mathlib.Core.Bool.{Bool, true, false}
+use mathlib.Core.List.{List}
+use native.Mathlib.Omega.{arith}
+use borrow.Author.Tests.{eqb-true, not-true}
+use lib.IntN.{ℤ, pos, negsuc, natAbs}
+use lib.Signed.{leZ}
+use Rattle.numbers.proofs.Integers.{ints}
+use Rattle.octets.specs.Refusal.{Said, refused, answered}
+use Rattle.octets.proofs.Ladder.{passed, answer-said}
+use Rattle.packet_check.specs.Refusal.{readRefusal}
+use Rattle.packet.specs.Fields.{fieldsOf}
+use Rattle.reorder_rules.specs.Buffer.{Buffer}
+use Rattle.reorder_rules.specs.Offer.{positionRefusal, admitted, positionOf, offerRefusal, offerDue}
+use Rattle.reorder_rules.proofs.Said.{refusing-none}
+
+-- ---- a position that is admitted
+
+pub record Admitted (next : ℕ) (held : ℕ → Bool) (y : Said ℤ) (p : ℕ) : Type 0 where
+  pub at : y ≡ answered (pos p)
+  pub most : p ≤ 999999
+  pub least : next ≤ p
+  pub free : held p ≡ false
+  pub near : p ≤ next + 31
+
+number-of : (n : ℕ) (z : ℤ) → leZ (pos n) z ≡ true → z ≡ pos (natAbs z)
+number-of n (pos m) e = refl
+number-of n (negsuc m) e = absurd (omega ints)
+
+pub admitted-at : (next : ℕ) (held : ℕ → Bool) (y : Said ℤ) (p : ℕ) → admitted next held y ≡ answered p → Admitted next held y p
+unfolding admitted positionRefusal
+admitted-at next held (refused n) p e = let z : _≡_ {A = ℕ} 0 1 = cc in absurd (omega arith)
+admitted-at next held (answered z) p e =
+    let a = answer-said (positionRefusal next held z) (natAbs z) p (sym e) in
+    let c1 = passed _ 21 _ (a .0) in
+    let c2 = passed _ 22 _ (c1 .1) in
+    let c3 = passed _ 23 _ (c2 .1) in
+    let c4 = passed _ 24 _ (c3 .1) in
+    let n : z ≡ pos (natAbs z) = number-of next z (c2 .0) in
+    let i : z ≡ pos p = n ∙ ap pos (sym (a .1)) in
+    let top : leZ (pos p) (pos 999999) ≡ true = subst (λ (x : ℤ). leZ x (pos 999999) ≡ true) i (c1 .0) in
+    let low : leZ (pos next) (pos p) ≡ true = subst (λ (x : ℤ). leZ (pos next) x ≡ true) i (c2 .0) in
+    let high : leZ (pos p) (pos (next + 31)) ≡ true = subst (λ (x : ℤ). leZ x (pos (next + 31)) ≡ true) i (c4 .0) in
+    record {
+      at = ap answered i;
+      most = omega ints;
+      least = omega ints;
+      free = ap held (a .1) ∙ not-true (held (natAbs z)) (c3 .0);
+      near = omega ints;
+    }
+
+-- ---- an offer that is taken
+
+module _ {S : Type 0} (B : Buffer S) where
+  pub record Taken (s : S) (size : ℕ) (b : List ℕ) (p : ℕ) : Type 0 where
+    pub unbroken : B .broken s ≡ false
+    pub store : size ≡ 34560
+    pub read : readRefusal b (B .word s) ≡ 0
+    pub position : Admitted (B .start s) (B .held s) (positionOf B s (fieldsOf b)) p
+
+  pub taken-offer : (s : S) (size : ℕ) (b : List ℕ) (p : ℕ) → offerDue B s size b ≡ answered p → Taken s size b p
+  unfolding offerRefusal offerDue
+  taken-offer s size b p e =
+      let r = refusing-none _ _ p e in
+      let c1 = passed _ 29 _ (r .0) in
+      let c2 = passed _ 26 _ (c1 .1) in
+      record {
+        unbroken = not-true (B .broken s) (c1 .0);
+        store = eqb-true _ _ (c2 .0);
+        read = c2 .1;
+        position = admitted-at (B .start s) (B .held s) _ p (r .1);
+      }

@@ -1,0 +1,29 @@
+-- What a session says of itself, as one consumer sees it. The calls read and change a session of type S through this alone, so that they are
+-- defined once for every way to keep what is held.
+use Prim.Native.Nat.{ℕ}
+use mathlib.Core.Bool.{Bool}
+use mathlib.Core.List.{List}
+use Rattle.position.specs.declared.Anchor.{Anchor}
+
+pub record Buffer (S : Type 0) : Type 0 where
+  -- 30: session broken
+  pub broken : S → Bool
+  -- count and time of the opening packet, and the word of the packets' sum
+  pub anchor : S → Anchor
+  pub word : S → ℕ
+  -- where the window starts: the 32 positions from there on can be held
+  pub start : S → ℕ
+  -- position p is held; some held position is at least lo
+  pub held : S → ℕ → Bool
+  pub some : S → ℕ → Bool
+  -- the bytes of a held position in the store
+  pub bytes : S → List ℕ → ℕ → List ℕ
+  -- the consumer's next position, and its threshold (document 01's patience)
+  pub next : S → ℕ
+  pub threshold : S → ℕ
+  -- the session once position p is held too, and the store with p's packet in it
+  pub taken : S → ℕ → S
+  pub stored : S → List ℕ → ℕ → List ℕ → List ℕ
+  -- the session once next, which is held, was given; and once next, which isn't, was called missing
+  pub given : S → S
+  pub missed : S → S
