@@ -7,35 +7,26 @@ use mathlib.Core.Logic.{_⊎_, inl, inr}
 use native.Mathlib.Nat.{sub-zero}
 use native.Mathlib.Omega.{arith}
 use lib.ListN.{length, replicate, getD}
+use Rattle.reorder_rules.specs.Turn as Turn-rules
+use Rattle.reorder_rules.specs.Serve as Serve-rules
 use Rattle.octets.specs.Refusal.{Said, answered, say}
 use Rattle.octets.proofs.Ladder.{pass, pass-eq, pass-le, say-answered, answer-said}
 use Rattle.reorder_session.specs.declared.Session.{Session}
-use Rattle.reorder_session.specs.Session.{slot}
-use Rattle.reorder_session.specs.Outcome.{outcome}
-use Rattle.reorder_session.proofs.Said.{left}
-use Rattle.reorder_session.proofs.Whole.{Whole, unbroken}
-use Rattle.reorder_turn.specs.Turn.{Turn, packet, waiting, turn, turned, shown, turns, turnedAll, shownAll}
-use Rattle.reorder_turn.specs.Refusals.{serveRefusal, drainRefusal}
-use Rattle.reorder_serve.specs.Serve.{serveOf, drainOf}
-use Rattle.reorder_turn.proofs.Turns.{turns-stop}
-use Rattle.reorder_turn.proofs.Ready.{DrainReady, drain-ready}
+use Rattle.reorder_session.specs.Session.{slot, single}
+use Rattle.reorder_rules.specs.Outcome.{outcome}
+use Rattle.reorder_rules.proofs.Said.{left}
+use Rattle.reorder_rules.specs.Turn.{Turn, packet, waiting}
+use Rattle.reorder_session.specs.Calls.{turn, turned, shown, turns, turnedAll, shownAll, serveRefusal, drainRefusal, serveOf, drainOf}
+use Rattle.reorder_rules.proofs.Turns.{turns-stop, turns-split, turns-most}
+use Rattle.reorder_rules.proofs.Ready.{DrainReady, drain-ready}
+use Rattle.reorder_session.proofs.Whole.{Whole, whole, unbroken}
 use Rattle.reorder_laws.specs.Serves.{serves, sessionAfter, saidBy, bytesBy, answerAt, piece, DrainsAreServes}
-use Rattle.reorder_laws.proofs.Kept.{whole-turned, turns-split}
+use Rattle.reorder_laws.proofs.Kept.{whole-turned}
 use Rattle.reorder_laws.proofs.Pieces.{piece-same, slot-length, shown-packet, shown-other}
 
 -- the two ways that a budget of turns can begin
 abbrev Split : ℕ → Session → Type 0
 Split b s = ((turn s ≡ waiting) × (turns (suc b) s ≡ [])) ⊎ (turns (suc b) s ≡ turn s ∷ turns b (turned s (turn s)))
-
--- no more turns than the budget
-pub turns-most : (b : ℕ) (s : Session) → length (turns b s) ≤ b
-unfolding turns
-turns-most zero s = omega arith
-turns-most (suc b) s = go (turns-split b s) (turns-most b (turned s (turn s)))
-  where
-    go : Split b s → length (turns b (turned s (turn s))) ≤ b → length (turns (suc b) s) ≤ suc b
-    go (inl w) r = subst (λ (ts : List Turn). length ts ≤ suc b) (sym (w .1)) (omega arith)
-    go (inr e) r = subst (λ (ts : List Turn). length ts ≤ suc b) (sym e) (omega arith)
 
 -- what is said by b serves that answer ts
 abbrev padded : ℕ → List Turn → List (Said Turn)
@@ -46,26 +37,26 @@ module _ (store : List ℕ) (size : length store ≡ 34560) (one : List ℕ) (ro
   pub record Fine (s : Session) : Type 0 where
     pub says : serveOf s one store .said ≡ answered (turn s)
     pub session : serveOf s one store .session ≡ turned s (turn s)
-    pub bytes : serveOf s one store .bytes ≡ shown 0 store one (turn s)
+    pub bytes : serveOf s one store .bytes ≡ shown s 0 store one (turn s)
 
   pub fine : (s : Session) → Whole s → Fine s
-  unfolding serveOf serveRefusal
+  unfolding Serve-rules.serveOf Serve-rules.serveRefusal
   fine s v =
       let n = serveRefusal s (length store) (length one) in
       let z : n ≡ 0 =
       sym (pass _ 30 _ 0 (ap not (unbroken s v)) (pass-eq (length store) 34560 27 _ 0 size (pass-le 1080 (length one) 29 0 0 room refl))) in
       let e : say n (turn s) ≡ answered (turn s) = sym (say-answered n (turn s) (turn s) z refl) in
       record {
-        says = ap (λ (x : Said Turn). outcome x s one (turned s) (shown 0 store one) .said) e;
-        session = ap (λ (x : Said Turn). outcome x s one (turned s) (shown 0 store one) .session) e;
-        bytes = ap (λ (x : Said Turn). outcome x s one (turned s) (shown 0 store one) .bytes) e;
+        says = ap (λ (x : Said Turn). outcome x s one (turned s) (shown s 0 store one) .said) e;
+        session = ap (λ (x : Said Turn). outcome x s one (turned s) (shown s 0 store one) .session) e;
+        bytes = ap (λ (x : Said Turn). outcome x s one (turned s) (shown s 0 store one) .bytes) e;
       }
 
   -- several serves
   said-all : (b : ℕ) (s : Session) → Whole s → map saidBy (serves b s one store) ≡ padded b (turns b s)
-  unfolding serves turns
+  unfolding serves Turn-rules.turns
   said-all zero s v = refl
-  said-all (suc b) s v = go (turns-split b s) (λ t w. said-all b t w)
+  said-all (suc b) s v = go (turns-split single b s) (λ t w. said-all b t w)
     where
       f : Fine s
       f = fine s v
@@ -76,7 +67,7 @@ module _ (store : List ℕ) (size : length store ≡ 34560) (one : List ℕ) (ro
           let same : serveOf s one store .session ≡ s = f .session ∙ ap (turned s) (w .0) in
           (λ i. (f .says ∙ ap answered (w .0)) i ∷ map saidBy (serves b (same i) one store))
           ∙ ap (λ (l : List (Said Turn)). answered waiting ∷ l)
-          (r s v ∙ ap (padded b) (turns-stop b s (w .0)) ∙ ap (λ (k : ℕ). map answered (replicate k waiting)) (sub-zero b))
+          (r s v ∙ ap (padded b) (turns-stop single b s (w .0)) ∙ ap (λ (k : ℕ). map answered (replicate k waiting)) (sub-zero b))
           ∙ ap (λ (k : ℕ). map answered (replicate k waiting)) (sym (sub-zero (suc b)))
           ∙ sym (ap (padded (suc b)) (w .1))
       go (inr e) r =
@@ -88,9 +79,9 @@ module _ (store : List ℕ) (size : length store ≡ 34560) (one : List ℕ) (ro
           ∙ sym (ap (padded (suc b)) e)
 
   session-all : (b : ℕ) (s : Session) → Whole s → sessionAfter s (serves b s one store) ≡ turnedAll s (turns b s)
-  unfolding serves turns sessionAfter turnedAll
+  unfolding serves Turn-rules.turns sessionAfter Turn-rules.turnedAll
   session-all zero s v = refl
-  session-all (suc b) s v = go (turns-split b s) (λ t w. session-all b t w)
+  session-all (suc b) s v = go (turns-split single b s) (λ t w. session-all b t w)
     where
       f : Fine s
       f = fine s v
@@ -100,16 +91,16 @@ module _ (store : List ℕ) (size : length store ≡ 34560) (one : List ℕ) (ro
       go (inl w) r =
           let same : serveOf s one store .session ≡ s = f .session ∙ ap (turned s) (w .0) in
           ap (λ (t : Session). sessionAfter t (serves b t one store)) same
-          ∙ r s v ∙ ap (turnedAll s) (turns-stop b s (w .0)) ∙ sym (ap (turnedAll s) (w .1))
+          ∙ r s v ∙ ap (turnedAll s) (turns-stop single b s (w .0)) ∙ sym (ap (turnedAll s) (w .1))
       go (inr e) r =
           ap (λ (t : Session). sessionAfter t (serves b t one store)) (f .session)
           ∙ r (turned s (turn s)) (whole-turned s v) ∙ sym (ap (turnedAll s) e)
 
   bytes-all : (b : ℕ) (s : Session) → Whole s → (i p : ℕ) → answerAt (turns b s) i ≡ packet p
       → piece (getD (map bytesBy (serves b s one store)) i []) 0 ≡ slot store p
-  unfolding serves turns
+  unfolding serves Turn-rules.turns
   bytes-all zero s v i p e = let z : _≡_ {A = ℕ} 0 1 = cc in absurd (omega arith)
-  bytes-all (suc b) s v i p e = go (turns-split b s) i e (λ t w. bytes-all b t w)
+  bytes-all (suc b) s v i p e = go (turns-split single b s) i e (λ t w. bytes-all b t w)
     where
       f : Fine s
       f = fine s v
@@ -125,7 +116,7 @@ module _ (store : List ℕ) (size : length store ≡ 34560) (one : List ℕ) (ro
           absurd (omega arith)
       go (inr u) zero h r =
           let q : turn s ≡ packet p = sym (ap (λ (ts : List Turn). answerAt ts 0) u) ∙ h in
-          ap (λ (l : List ℕ). piece l 0) (f .bytes ∙ ap (shown 0 store one) q) ∙ piece-same one (slot store p) 0 (slot-length store p size) (omega arith)
+          ap (λ (l : List ℕ). piece l 0) (f .bytes ∙ ap (shown s 0 store one) q) ∙ piece-same one (slot store p) 0 (slot-length store p size) (omega arith)
       go (inr u) (suc j) h r =
           let q : answerAt (turns b (turned s (turn s))) j ≡ packet p = sym (ap (λ (ts : List Turn). answerAt ts (suc j)) u) ∙ h in
           ap (λ (t : Session). piece (getD (map bytesBy (serves b t one store)) j []) 0) (f .session) ∙ r (turned s (turn s)) (whole-turned s v) j p q
@@ -134,20 +125,20 @@ module _ (store : List ℕ) (size : length store ≡ 34560) (one : List ℕ) (ro
 
 -- what a drain that answers ts has met, and what it leaves
 pub record Drained (s : Session) (out store : List ℕ) (budget : ℕ) (ts : List Turn) : Type 0 where
-  pub ready : DrainReady s (length store) (length out) budget
+  pub ready : DrainReady single s (length store) (length out) budget
   pub all : ts ≡ turns budget s
   pub few : length ts ≤ 32
   pub session : drainOf s out store budget .session ≡ turnedAll s ts
-  pub bytes : drainOf s out store budget .bytes ≡ shownAll 0 store out ts
+  pub bytes : drainOf s out store budget .bytes ≡ shownAll s 0 store out ts
 
 pub drained : (s : Session) (out store : List ℕ) (budget : ℕ) (ts : List Turn) → drainOf s out store budget .said ≡ answered ts → Drained s out store budget ts
-unfolding drainOf
+unfolding Serve-rules.drainOf
 drained s out store budget ts e =
     let n = drainRefusal s (length store) (length out) budget in
-    let l = left (say n (turns budget s)) s out (turnedAll s) (shownAll 0 store out) ts e in
+    let l = left (say n (turns budget s)) s out (turnedAll s) (shownAll s 0 store out) ts e in
     let a = answer-said n (turns budget s) ts (sym (l .answer)) in
-    let r = drain-ready s (length store) (length out) budget (a .0) in
-    let m : length ts ≤ budget = subst (λ (us : List Turn). length us ≤ budget) (sym (a .1)) (turns-most budget s) in
+    let r = drain-ready single s (length store) (length out) budget (a .0) in
+    let m : length ts ≤ budget = subst (λ (us : List Turn). length us ≤ budget) (sym (a .1)) (turns-most single budget s) in
     record { ready = r; all = a .1; few = omega (arith, r .most); session = l .session; bytes = l .bytes }
 
 -- the bytes of a drain's answer numbered i
@@ -155,20 +146,20 @@ pub drained-packet : (s : Session) (out store : List ℕ) (budget : ℕ) (ts : L
     → piece (drainOf s out store budget .bytes) i ≡ slot store p
 drained-packet s out store budget ts d i p e =
     let q : i ≡ 0 + i = omega arith in
-    ap (λ (l : List ℕ). piece l i) (d .bytes) ∙ ap (piece (shownAll 0 store out ts)) q
-    ∙ shown-packet store (d .ready .store) ts 0 i p out (omega (arith, d .ready .out, d .few)) e
+    ap (λ (l : List ℕ). piece l i) (d .bytes) ∙ ap (piece (shownAll s 0 store out ts)) q
+    ∙ shown-packet store (d .ready .store) s ts 0 i p out (omega (arith, d .ready .out, d .few)) e
 
 drained-other : (s : Session) (out store : List ℕ) (budget : ℕ) (ts : List Turn) → Drained s out store budget ts → (i : ℕ)
     → ((p : ℕ) → answerAt ts i ≡ packet p → ⊥) → piece (drainOf s out store budget .bytes) i ≡ piece out i
 drained-other s out store budget ts d i n =
     let q : i ≡ 0 + i = omega arith in
-    ap (λ (l : List ℕ). piece l i) (d .bytes) ∙ ap (piece (shownAll 0 store out ts)) q
-    ∙ shown-other store (d .ready .store) ts 0 i out (omega (arith, d .ready .out, d .few)) n ∙ ap (piece out) (sym q)
+    ap (λ (l : List ℕ). piece l i) (d .bytes) ∙ ap (piece (shownAll s 0 store out ts)) q
+    ∙ shown-other store (d .ready .store) s ts 0 i out (omega (arith, d .ready .out, d .few)) n ∙ ap (piece out) (sym q)
 
 pub drains-are-serves : DrainsAreServes
 drains-are-serves s out store budget ts one e room =
     let d = drained s out store budget ts e in
-    let v = d .ready .sound in
+    let v = whole s (d .ready .unbroken) in
     let z = d .ready .store in
     record {
       answers = said-all store z one room budget s v ∙ ap (padded budget) (sym (d .all));

@@ -7,35 +7,37 @@ use mathlib.Core.Logic.{_⊎_, inl, inr}
 use native.Mathlib.Decide.{ℕ-discrete}
 use native.Mathlib.Omega.{arith}
 use lib.ListN.{length}
+use Rattle.reorder_rules.specs.Turn as Turn-rules
+use Rattle.reorder_rules.specs.Serve as Serve-rules
+use Rattle.reorder_rules.specs.Pass as Pass-rules
+use Rattle.reorder_rules.specs.Offer as Offer-rules
 use Rattle.octets.specs.Refusal.{answered, say}
 use Rattle.octets.proofs.Ladder.{answer-said}
 use Rattle.octets.proofs.Store.{put-length}
 use Rattle.packet_check.proofs.Accept.{accepted}
 use Rattle.packet.specs.Fields.{fieldsOf}
 use Rattle.window.specs.declared.Window.{Window}
-use Rattle.window.specs.Window.{heldAt, holding, freed, skipped}
+use Rattle.window.specs.Window.{heldAt, holding, freed, skipped, firstWindow}
 use Rattle.window.proofs.Held.{held-least, held-most, freed-held, skipped-held, holding-other}
 use Rattle.reorder_session.specs.declared.Session.{Session}
-use Rattle.reorder_session.specs.Session.{broken, withWindow}
-use Rattle.reorder_admission.specs.Admission.{offerSaid}
-use Rattle.reorder.specs.Offer.{offerOf, firstWindow, opened, openSaid, openOf}
-use Rattle.reorder_session.proofs.Said.{outcome-cases, left}
+use Rattle.reorder_session.specs.Session.{broken, withWindow, single}
+use Rattle.reorder_session.specs.Calls.{offerDue, offerOf, turn, turned, turns, turnedAll, serveRefusal, drainRefusal, serveOf, drainOf, passRefusal, passOf}
+use Rattle.reorder_offer.specs.Opening.{opened, openDue, openOf}
+use Rattle.reorder_rules.proofs.Said.{outcome-cases, left}
+use Rattle.reorder_rules.proofs.Taken.{taken-offer}
+use Rattle.reorder_rules.specs.Turn.{Turn, packet, missing, waiting}
+use Rattle.reorder_turn.proofs.Turns.{Shows, shows-packet, shows-missing, shows-waiting, shows}
+use Rattle.reorder_rules.proofs.Turns.{turns-split}
+use Rattle.reorder_rules.proofs.Ready.{pass-ready}
 use Rattle.reorder_session.proofs.Whole.{Whole, whole, unbroken}
-use Rattle.reorder_admission.proofs.Taken.{taken-offer}
-use Rattle.reorder.proofs.Opening.{accepted-opening}
-use Rattle.reorder_turn.specs.Turn.{Turn, packet, missing, waiting, turn, turned, turns, turnedAll, described}
-use Rattle.reorder_turn.specs.Refusals.{serveRefusal, drainRefusal}
-use Rattle.reorder_serve.specs.Serve.{serveOf, drainOf}
-use Rattle.reorder_pass.specs.Pass.{passRefusal, passOf}
-use Rattle.reorder_turn.proofs.Turns.{Shows, shows-packet, shows-missing, shows-waiting, shows, no-kind, turns-stop, turns-more}
-use Rattle.reorder_pass.proofs.Ready.{pass-ready}
+use Rattle.reorder_offer.proofs.Opening.{accepted-opening}
 use Rattle.reorder_laws.specs.Keeps.{Keeps, CallsKeep}
 
 -- ---- a session that isn't broken, after each step
 
 module _ (s : Session) (v : Whole s) where
   -- the same session with a window whose next and held positions are in order
-  moved : (w : Window) → w .next ≤ 1000000 → ((p : ℕ) → heldAt w p ≡ true → p ≤ 999999) → Whole (withWindow s w)
+  moved : (w : Window) → w .start ≤ 1000000 → ((p : ℕ) → heldAt w p ≡ true → p ≤ 999999) → Whole (withWindow s w)
   moved w l h =
       record {
         count = v .count;
@@ -47,17 +49,17 @@ module _ (s : Session) (v : Whole s) where
         held-most = h;
       }
 
-  pub whole-freed : heldAt (s .window) (s .window .next) ≡ true → Whole (withWindow s (freed (s .window)))
+  pub whole-freed : heldAt (s .window) (s .window .start) ≡ true → Whole (withWindow s (freed (s .window)))
   whole-freed e =
-      moved (freed (s .window)) (omega (arith, v .held-most (s .window .next) e))
+      moved (freed (s .window)) (omega (arith, v .held-most (s .window .start) e))
       (λ p h. v .held-most p (sym (freed-held (s .window) p (omega (arith, held-least (freed (s .window)) p h))) ∙ h))
 
-  pub whole-skipped : heldAt (s .window) (s .window .next) ≡ false → s .window .next < 1000000 → Whole (withWindow s (skipped (s .window)))
+  pub whole-skipped : heldAt (s .window) (s .window .start) ≡ false → s .window .start < 1000000 → Whole (withWindow s (skipped (s .window)))
   whole-skipped e l =
       moved (skipped (s .window)) (omega arith)
       (λ p h. v .held-most p (sym (skipped-held (s .window) p e (omega (arith, held-least (skipped (s .window)) p h))) ∙ h))
 
-  pub whole-holding : (p : ℕ) → s .window .next ≤ p → p ≤ s .window .next + 31 → p ≤ 999999 → Whole (withWindow s (holding (s .window) p))
+  pub whole-holding : (p : ℕ) → s .window .start ≤ p → p ≤ s .window .start + 31 → p ≤ 999999 → Whole (withWindow s (holding (s .window) p))
   whole-holding p lo hi top = moved (holding (s .window) p) (v .next-most) (λ q h. most q h (ℕ-discrete q p))
     where
       most : (q : ℕ) → heldAt (holding (s .window) p) q ≡ true → Dec (q ≡ p) → q ≤ 999999
@@ -88,7 +90,7 @@ keeps-then s t u a b =
     }
 
 -- with another window
-keeps-moved : (s : Session) (w : Window) → s .window .next ≤ w .next → (Whole s → Whole (withWindow s w)) → Keeps s (withWindow s w)
+keeps-moved : (s : Session) (w : Window) → s .window .start ≤ w .start → (Whole s → Whole (withWindow s w)) → Keeps s (withWindow s w)
 keeps-moved s w l f =
     record { unbroken = λ e. unbroken (withWindow s w) (f (whole s e)); next-grows = l; same-anchor = refl; same-word = refl; same-threshold = refl }
 
@@ -102,18 +104,10 @@ keeps-turned s = go (turn s) (λ v. whole-turned s v)
 
 -- ---- several turns
 
--- the turns stop, or one comes before the others
-pub turns-split : (b : ℕ) (s : Session) → ((turn s ≡ waiting) × (turns (suc b) s ≡ [])) ⊎ (turns (suc b) s ≡ turn s ∷ turns b (turned s (turn s)))
-turns-split b s = go (ℕ-discrete (described (turn s) .kind) 0)
-  where
-    go : Dec (described (turn s) .kind ≡ 0) → ((turn s ≡ waiting) × (turns (suc b) s ≡ [])) ⊎ (turns (suc b) s ≡ turn s ∷ turns b (turned s (turn s)))
-    go (yes e) = inl (no-kind (turn s) e, turns-stop (suc b) s (no-kind (turn s) e))
-    go (no n) = inr (turns-more b s (turn s) refl n)
-
 pub keeps-turns : (b : ℕ) (s : Session) → Keeps s (turnedAll s (turns b s))
-unfolding turns turnedAll
+unfolding Turn-rules.turns Turn-rules.turnedAll
 keeps-turns zero s = keeps-none s
-keeps-turns (suc b) s = go (turns-split b s) (keeps-turns b (turned s (turn s)))
+keeps-turns (suc b) s = go (turns-split single b s) (keeps-turns b (turned s (turn s)))
   where
     go : ((turn s ≡ waiting) × (turns (suc b) s ≡ [])) ⊎ (turns (suc b) s ≡ turn s ∷ turns b (turned s (turn s)))
         → Keeps (turned s (turn s)) (turnedAll (turned s (turn s)) (turns b (turned s (turn s)))) → Keeps s (turnedAll s (turns (suc b) s))
@@ -123,32 +117,32 @@ keeps-turns (suc b) s = go (turns-split b s) (keeps-turns b (turned s (turn s)))
 -- ---- the calls
 
 keeps-offer : (s : Session) (store b : List ℕ) → Keeps s (offerOf s store b .session)
-unfolding offerOf
+unfolding Offer-rules.offerOf
 keeps-offer s store b =
-    outcome-cases (λ t c. Keeps s t) (offerSaid s (length store) b) s store _ _ (keeps-none s)
+    outcome-cases (λ t c. Keeps s t) (offerDue s (length store) b) s store _ _ (keeps-none s)
     (λ p e.
-    let t = taken-offer s (length store) b p e .position in
+    let t = taken-offer single s (length store) b p e .position in
     keeps-moved s (holding (s .window) p) (omega arith) (λ v. whole-holding s v p (t .least) (t .near) (t .most)))
 
 keeps-serve : (s : Session) (out store : List ℕ) → Keeps s (serveOf s out store .session)
-unfolding serveOf
+unfolding Serve-rules.serveOf
 keeps-serve s out store =
     outcome-cases (λ t c. Keeps s t) (say (serveRefusal s (length store) (length out)) (turn s)) s out (turned s) _ (keeps-none s)
     (λ t e. subst (λ (x : Turn). Keeps s (turned s x)) (sym (answer-said (serveRefusal s (length store) (length out)) (turn s) t (sym e) .1)) (keeps-turned s))
 
 keeps-drain : (s : Session) (out store : List ℕ) (budget : ℕ) → Keeps s (drainOf s out store budget .session)
-unfolding drainOf
+unfolding Serve-rules.drainOf
 keeps-drain s out store budget =
     let n = drainRefusal s (length store) (length out) budget in
     outcome-cases (λ t c. Keeps s t) (say n (turns budget s)) s out (turnedAll s) _ (keeps-none s)
     (λ ts e. subst (λ (x : List Turn). Keeps s (turnedAll s x)) (sym (answer-said n (turns budget s) ts (sym e) .1)) (keeps-turns budget s))
 
 keeps-pass : (s : Session) → Keeps s (passOf s .session)
-unfolding passOf
+unfolding Pass-rules.passOf
 keeps-pass s =
-    outcome-cases (λ t c. Keeps s t) (say (passRefusal s) (s .window .next)) s [] _ _ (keeps-none s)
+    outcome-cases (λ t c. Keeps s t) (say (passRefusal s) (s .window .start)) s [] _ _ (keeps-none s)
     (λ p e.
-    let r = pass-ready s (answer-said (passRefusal s) (s .window .next) p (sym e) .0) in
+    let r = pass-ready single s (answer-said (passRefusal s) (s .window .start) p (sym e) .0) in
     keeps-moved s (skipped (s .window)) (omega arith) (λ v. whole-skipped s v (r .free) (omega (arith, v .next-most, r .before-end))))
 
 -- an opening holds position 0 alone
@@ -162,7 +156,7 @@ counts b = omega arith
 open-whole : (s : Session) (store b : List ℕ) (h w p : ℕ) → openOf s store b h w .said ≡ answered p → broken (openOf s store b h w .session) ≡ false
 unfolding openOf
 open-whole s store b h w p e =
-    let l = left (openSaid (length store) b h w) s store _ _ p e in
+    let l = left (openDue (length store) b h w) s store _ _ p e in
     let o = accepted-opening (length store) b h w p (l .answer) in
     let a = accepted b w (o .read) in
     ap broken (l .session)
@@ -179,11 +173,11 @@ open-whole s store b h w p e =
 
 open-size : (s : Session) (store b : List ℕ) (h w : ℕ) → length (openOf s store b h w .bytes) ≡ length store
 unfolding openOf
-open-size s store b h w = outcome-cases (λ t c. length c ≡ length store) (openSaid (length store) b h w) s store _ _ refl (λ p e. put-length store _ b)
+open-size s store b h w = outcome-cases (λ t c. length c ≡ length store) (openDue (length store) b h w) s store _ _ refl (λ p e. put-length store _ b)
 
 offer-size : (s : Session) (store b : List ℕ) → length (offerOf s store b .bytes) ≡ length store
-unfolding offerOf
-offer-size s store b = outcome-cases (λ t c. length c ≡ length store) (offerSaid s (length store) b) s store _ _ refl (λ p e. put-length store _ b)
+unfolding Offer-rules.offerOf
+offer-size s store b = outcome-cases (λ t c. length c ≡ length store) (offerDue s (length store) b) s store _ _ refl (λ p e. put-length store _ b)
 
 pub calls-keep : CallsKeep
 calls-keep =

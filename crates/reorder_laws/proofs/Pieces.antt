@@ -5,12 +5,15 @@ use mathlib.Core.List.{List, [], _∷_}
 use native.Mathlib.Decide.{decLt}
 use native.Mathlib.Omega.{arith}
 use lib.ListN.{length}
+use Rattle.reorder_rules.specs.Turn as Turn-rules
 use Rattle.octets.specs.Bytes.{part, put}
 use Rattle.octets.proofs.Codec.{part-length}
 use Rattle.octets.proofs.Store.{put-there, put-before, put-after}
-use Rattle.reorder_session.specs.Session.{slot}
-use Rattle.reorder_turn.specs.Turn.{Turn, packet, missing, waiting, shown, shownAll}
-use Rattle.reorder_turn.proofs.Turns.{shown-length}
+use Rattle.reorder_session.specs.declared.Session.{Session}
+use Rattle.reorder_session.specs.Session.{slot, single}
+use Rattle.reorder_rules.specs.Turn.{Turn, packet, missing, waiting}
+use Rattle.reorder_session.specs.Calls.{turned, shown, shownAll}
+use Rattle.reorder_rules.proofs.Turns.{shown-length}
 use Rattle.reorder_laws.specs.Serves.{answerAt, piece}
 
 -- a piece stored is there, and every other piece as it was
@@ -31,53 +34,53 @@ slot-length store p e = part-length store (1080 * (p % 32)) 1080 (omega arith)
 
 module _ (store : List ℕ) (size : length store ≡ 34560) where
   -- one turn leaves the other pieces
-  shown-elsewhere : (k j : ℕ) (out : List ℕ) (t : Turn) → 1080 * k + 1080 ≤ length out → (k ≡ j → ⊥) → piece (shown k store out t) j ≡ piece out j
-  shown-elsewhere k j out (packet p) h n = piece-other out (slot store p) k j (slot-length store p size) h n
-  shown-elsewhere k j out (missing p) h n = refl
-  shown-elsewhere k j out waiting h n = refl
+  shown-elsewhere : (s : Session) (k j : ℕ) (out : List ℕ) (t : Turn) → 1080 * k + 1080 ≤ length out → (k ≡ j → ⊥) → piece (shown s k store out t) j ≡ piece out j
+  shown-elsewhere s k j out (packet p) h n = piece-other out (slot store p) k j (slot-length store p size) h n
+  shown-elsewhere s k j out (missing p) h n = refl
+  shown-elsewhere s k j out waiting h n = refl
 
   -- turns numbered from k on leave the pieces before
-  shown-later : (ts : List Turn) (k j : ℕ) (out : List ℕ) → 1080 * (k + length ts) ≤ length out → j < k → piece (shownAll k store out ts) j ≡ piece out j
-  unfolding shownAll
-  shown-later [] k j out h l = refl
-  shown-later (t ∷ ts) k j out h l =
-      shown-later ts (suc k) j (shown k store out t) (omega (arith, shown-length k store out t)) (omega arith)
-      ∙ shown-elsewhere k j out t (omega arith) (λ e. omega arith)
+  shown-later : (s : Session) (ts : List Turn) (k j : ℕ) (out : List ℕ) → 1080 * (k + length ts) ≤ length out → j < k → piece (shownAll s k store out ts) j ≡ piece out j
+  unfolding Turn-rules.shownAll
+  shown-later s [] k j out h l = refl
+  shown-later s (t ∷ ts) k j out h l =
+      shown-later (turned s t) ts (suc k) j (shown s k store out t) (omega (arith, shown-length single s k store out t)) (omega arith)
+      ∙ shown-elsewhere s k j out t (omega arith) (λ e. omega arith)
 
   -- the answer numbered i of turns numbered from k on: a packet's bytes stand at its piece, else that piece is as it was
-  pub shown-packet : (ts : List Turn) (k i p : ℕ) (out : List ℕ) → 1080 * (k + length ts) ≤ length out → answerAt ts i ≡ packet p
-      → piece (shownAll k store out ts) (k + i) ≡ slot store p
-  unfolding shownAll
-  shown-packet [] k i p out h e = let z : _≡_ {A = ℕ} 0 1 = cc in absurd (omega arith)
-  shown-packet (t ∷ ts) k zero p out h e =
+  pub shown-packet : (s : Session) (ts : List Turn) (k i p : ℕ) (out : List ℕ) → 1080 * (k + length ts) ≤ length out → answerAt ts i ≡ packet p
+      → piece (shownAll s k store out ts) (k + i) ≡ slot store p
+  unfolding Turn-rules.shownAll
+  shown-packet s [] k i p out h e = let z : _≡_ {A = ℕ} 0 1 = cc in absurd (omega arith)
+  shown-packet s (t ∷ ts) k zero p out h e =
       let q : k + 0 ≡ k = omega arith in
-      ap (piece (shownAll (suc k) store (shown k store out t) ts)) q
-      ∙ shown-later ts (suc k) k (shown k store out t) (omega (arith, shown-length k store out t)) (omega arith)
-      ∙ ap (λ (u : Turn). piece (shown k store out u) k) e
+      ap (piece (shownAll (turned s t) (suc k) store (shown s k store out t) ts)) q
+      ∙ shown-later (turned s t) ts (suc k) k (shown s k store out t) (omega (arith, shown-length single s k store out t)) (omega arith)
+      ∙ ap (λ (u : Turn). piece (shown s k store out u) k) e
       ∙ piece-same out (slot store p) k (slot-length store p size) (omega arith)
-  shown-packet (t ∷ ts) k (suc i) p out h e =
+  shown-packet s (t ∷ ts) k (suc i) p out h e =
       let q : k + suc i ≡ suc k + i = omega arith in
-      ap (piece (shownAll (suc k) store (shown k store out t) ts)) q
-      ∙ shown-packet ts (suc k) i p (shown k store out t) (omega (arith, shown-length k store out t)) e
+      ap (piece (shownAll (turned s t) (suc k) store (shown s k store out t) ts)) q
+      ∙ shown-packet (turned s t) ts (suc k) i p (shown s k store out t) (omega (arith, shown-length single s k store out t)) e
 
-  pub shown-other : (ts : List Turn) (k i : ℕ) (out : List ℕ) → 1080 * (k + length ts) ≤ length out → ((p : ℕ) → answerAt ts i ≡ packet p → ⊥)
-      → piece (shownAll k store out ts) (k + i) ≡ piece out (k + i)
-  unfolding shownAll
-  shown-other [] k i out h n = refl
-  shown-other (t ∷ ts) k zero out h n =
+  pub shown-other : (s : Session) (ts : List Turn) (k i : ℕ) (out : List ℕ) → 1080 * (k + length ts) ≤ length out → ((p : ℕ) → answerAt ts i ≡ packet p → ⊥)
+      → piece (shownAll s k store out ts) (k + i) ≡ piece out (k + i)
+  unfolding Turn-rules.shownAll
+  shown-other s [] k i out h n = refl
+  shown-other s (t ∷ ts) k zero out h n =
       let q : k + 0 ≡ k = omega arith in
-      ap (piece (shownAll (suc k) store (shown k store out t) ts)) q
-      ∙ shown-later ts (suc k) k (shown k store out t) (omega (arith, shown-length k store out t)) (omega arith)
+      ap (piece (shownAll (turned s t) (suc k) store (shown s k store out t) ts)) q
+      ∙ shown-later (turned s t) ts (suc k) k (shown s k store out t) (omega (arith, shown-length single s k store out t)) (omega arith)
       ∙ idle t n
       ∙ ap (piece out) (sym q)
     where
-      idle : (u : Turn) → ((p : ℕ) → u ≡ packet p → ⊥) → piece (shown k store out u) k ≡ piece out k
+      idle : (u : Turn) → ((p : ℕ) → u ≡ packet p → ⊥) → piece (shown s k store out u) k ≡ piece out k
       idle (packet p) m = absurd (m p refl)
       idle (missing p) m = refl
       idle waiting m = refl
-  shown-other (t ∷ ts) k (suc i) out h n =
+  shown-other s (t ∷ ts) k (suc i) out h n =
       let q : k + suc i ≡ suc k + i = omega arith in
-      ap (piece (shownAll (suc k) store (shown k store out t) ts)) q
-      ∙ shown-other ts (suc k) i (shown k store out t) (omega (arith, shown-length k store out t)) n
-      ∙ shown-elsewhere k (suc k + i) out t (omega arith) (λ e. omega arith)
+      ap (piece (shownAll (turned s t) (suc k) store (shown s k store out t) ts)) q
+      ∙ shown-other (turned s t) ts (suc k) i (shown s k store out t) (omega (arith, shown-length single s k store out t)) n
+      ∙ shown-elsewhere s k (suc k + i) out t (omega arith) (λ e. omega arith)
       ∙ ap (piece out) (sym q)

@@ -8,10 +8,9 @@ use Rattle.octets.specs.Refusal.{answered}
 use Rattle.window.specs.Window.{heldAt}
 use Rattle.reorder_session.specs.declared.Session.{Session}
 use Rattle.reorder_session.specs.Session.{slot}
-use Rattle.reorder.specs.Offer.{openOf, offerOf}
-use Rattle.reorder_turn.specs.Turn.{Turn, packet}
-use Rattle.reorder_serve.specs.Serve.{serveOf, drainOf}
-use Rattle.reorder_pass.specs.Pass.{passOf}
+use Rattle.reorder_offer.specs.Opening.{openOf}
+use Rattle.reorder_session.specs.Calls.{offerOf, serveOf, drainOf, passOf}
+use Rattle.reorder_rules.specs.Turn.{Turn, packet}
 use Rattle.reorder_laws.specs.Serves.{answerAt, piece}
 
 -- position p is held, with the bytes b in the store

@@ -7,14 +7,13 @@ use lib.ListN.{length}
 use Rattle.octets.specs.Refusal.{answered}
 use Rattle.reorder_session.specs.declared.Session.{Session}
 use Rattle.reorder_session.specs.Session.{broken}
-use Rattle.reorder.specs.Offer.{openOf, offerOf}
-use Rattle.reorder_serve.specs.Serve.{serveOf, drainOf}
-use Rattle.reorder_pass.specs.Pass.{passOf}
+use Rattle.reorder_offer.specs.Opening.{openOf}
+use Rattle.reorder_session.specs.Calls.{offerOf, serveOf, drainOf, passOf}
 
 -- from the session s to the session t: a session that isn't broken stays so, next doesn't fall, and the rest is as the opening set it
 pub record Keeps (s t : Session) : Type 0 where
   pub unbroken : broken s ≡ false → broken t ≡ false
-  pub next-grows : s .window .next ≤ t .window .next
+  pub next-grows : s .window .start ≤ t .window .start
   pub same-anchor : t .anchor ≡ s .anchor
   pub same-word : t .«sum_word» ≡ s .«sum_word»
   pub same-threshold : t .threshold ≡ s .threshold

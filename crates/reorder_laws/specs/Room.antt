@@ -9,11 +9,8 @@ use Rattle.packet_check.specs.Refusal.{readRefusal}
 use Rattle.packet.specs.Fields.{fieldsOf}
 use Rattle.reorder_session.specs.declared.Session.{Session}
 use Rattle.reorder_session.specs.Session.{slotStart}
-use Rattle.reorder_admission.specs.Admission.{positionOf}
-use Rattle.reorder.specs.Offer.{offerOf}
-use Rattle.reorder_turn.specs.Turn.{packet, missing}
-use Rattle.reorder_serve.specs.Serve.{serveOf}
-use Rattle.reorder_pass.specs.Pass.{passOf}
+use Rattle.reorder_session.specs.Calls.{positionOf, offerOf, serveOf, passOf}
+use Rattle.reorder_rules.specs.Turn.{packet, missing}
 
 -- a packet b that is accepted and whose position is p + 32, one of those served, is taken by an offer to t, into p's bytes of the store
 pub record TakesAgain (t : Session) (store : List ℕ) (p : ℕ) : Type 0 where

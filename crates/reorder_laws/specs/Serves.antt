@@ -6,24 +6,24 @@ use lib.ListN.{length, replicate, getD}
 use Rattle.octets.specs.Bytes.{part}
 use Rattle.octets.specs.Refusal.{Said, answered}
 use Rattle.reorder_session.specs.declared.Session.{Session}
-use Rattle.reorder_session.specs.Outcome.{Outcome}
-use Rattle.reorder_turn.specs.Turn.{Turn, packet, waiting}
-use Rattle.reorder_serve.specs.Serve.{serveOf, drainOf}
+use Rattle.reorder_rules.specs.Outcome.{Outcome}
+use Rattle.reorder_rules.specs.Turn.{Turn, packet, waiting}
+use Rattle.reorder_session.specs.Calls.{serveOf, drainOf}
 
 -- n serves one after another: each gets the session that the one before left, the same store, and an output like `one`
-unfoldable pub serves : ℕ → Session → List ℕ → List ℕ → List (Outcome Turn)
+unfoldable pub serves : ℕ → Session → List ℕ → List ℕ → List (Outcome Session Turn)
 serves zero s one store = []
 serves (suc n) s one store = serveOf s one store ∷ serves n (serveOf s one store .session) one store
 
 -- the session after them
-unfoldable pub sessionAfter : Session → List (Outcome Turn) → Session
+unfoldable pub sessionAfter : Session → List (Outcome Session Turn) → Session
 sessionAfter s [] = s
 sessionAfter s (o ∷ os) = sessionAfter (o .session) os
 
-abbrev pub saidBy : Outcome Turn → Said Turn
+abbrev pub saidBy : Outcome Session Turn → Said Turn
 saidBy o = o .said
 
-abbrev pub bytesBy : Outcome Turn → List ℕ
+abbrev pub bytesBy : Outcome Session Turn → List ℕ
 bytesBy o = o .bytes
 
 -- the answer numbered i, from 0; Waiting past the last

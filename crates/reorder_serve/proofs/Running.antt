@@ -6,11 +6,11 @@ use native.Mathlib.Nat.{sub-zero}
 use native.Mathlib.Omega.{arith}
 use lib.ListN.{length, replicate, set, length-append, length-set}
 use Rattle.octets.specs.Refusal.{answered}
-use Rattle.reorder_rules.specs.Turn as Rules
+use Rattle.reorder_rules.specs.Turn as Turn-rules
 use Rattle.reorder_rules.specs.Turn.{Turn}
 use Rattle.reorder_rules.proofs.Turns.{one-more, shown-length, turns-more, turned-last, shown-last}
 use Rattle.reorder_session.specs.declared.Session.{Session}
-use Rattle.reorder_session.specs.Session.{one}
+use Rattle.reorder_session.specs.Session.{single}
 use Rattle.reorder_session.specs.Calls.{turn, turned, shown, turns, turnedAll, shownAll}
 use Rattle.reorder_turn.specs.declared.Description.{Description}
 use Rattle.reorder_turn.specs.Described.{none, described, describedAll}
@@ -31,7 +31,7 @@ pub record Running (budget : ℕ) (store out₀ : List ℕ) (s₀ : Session) (ou
 
 -- before the first answer
 pub run-none : (budget : ℕ) (store out : List ℕ) (s : Session) → Running budget store out s out s 0 (replicate 32 none)
-unfolding Rules.turnedAll Rules.shownAll describedAll
+unfolding Turn-rules.turnedAll Turn-rules.shownAll describedAll
 run-none budget store out s =
     record {
       done = [];
@@ -59,18 +59,18 @@ module _ (budget : ℕ) (store out₀ : List ℕ) (s₀ : Session) (out : List �
         done = ts ++ (t ∷ []);
         count = length-append ts (t ∷ []) ∙ omega arith;
         within = omega arith;
-        session = es ∙ ap (λ (x : Session). turned x t) (running .session) ∙ sym (turned-last one s₀ ts t);
+        session = es ∙ ap (λ (x : Session). turned x t) (running .session) ∙ sym (turned-last single s₀ ts t);
         output =
             let z : i ≡ 0 + length ts = omega arith in
-            eo ∙ (λ k. shown (running .session k) (z k) store (running .output k) t) ∙ sym (shown-last one s₀ 0 store out₀ ts t);
-        size = ap length eo ∙ shown-length one s i store out t ∙ running .size;
+            eo ∙ (λ k. shown (running .session k) (z k) store (running .output k) t) ∙ sym (shown-last single s₀ 0 store out₀ ts t);
+        size = ap length eo ∙ shown-length single s i store out t ∙ running .size;
         reported = (λ k. set (running .reported k) (c k) (ed k)) ∙ described-last ts t (omega arith);
         places = length-set descriptions i d ∙ running .places;
-        next = ap (λ (x : Session). x .window .start) es ∙ one-more one (λ x. refl) (λ x. refl) s t (some-kind t n) ∙ omega (arith, running .next);
+        next = ap (λ (x : Session). x .window .start) es ∙ one-more single (λ x. refl) (λ x. refl) s t (some-kind t n) ∙ omega (arith, running .next);
         rest =
             running .rest
             ∙ ap (λ (k : ℕ). ts ++ turns k s) (let e : budget - i ≡ suc (budget - (i + 1)) = omega arith in e)
-            ∙ ap (λ (r : List Turn). ts ++ r) (turns-more one (budget - (i + 1)) s t refl (some-kind t n))
+            ∙ ap (λ (r : List Turn). ts ++ r) (turns-more single (budget - (i + 1)) s t refl (some-kind t n))
             ∙ ap (λ (x : Session). ts ++ (t ∷ turns (budget - (i + 1)) x)) (sym es)
             ∙ sym (append-assoc ts (t ∷ []) (turns (budget - (i + 1)) s′));
       }
@@ -91,5 +91,5 @@ module _ (budget : ℕ) (store out₀ : List ℕ) (s₀ : Session) (out : List �
       )
 
   pub run-spent : budget ≤ i → turns (budget - i) s ≡ []
-  unfolding Rules.turns
+  unfolding Turn-rules.turns
   run-spent h = let e : budget - i ≡ 0 = omega arith in ap (λ (k : ℕ). turns k s) e

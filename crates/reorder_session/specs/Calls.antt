@@ -11,72 +11,72 @@ use Rattle.reorder_rules.specs.Serve as Serve
 use Rattle.reorder_rules.specs.Pass as Pass
 use Rattle.reorder_rules.specs.Promises as Promises
 use Rattle.reorder_session.specs.declared.Session.{Session}
-use Rattle.reorder_session.specs.Session.{one}
+use Rattle.reorder_session.specs.Session.{single}
 
 -- ---- an offer
 
 abbrev pub positionOf : Session → PacketFields → Said ℤ
-positionOf = Offer.positionOf one
+positionOf = Offer.positionOf single
 
 abbrev pub offerRefusal : Session → ℕ → List ℕ → ℕ
-offerRefusal = Offer.offerRefusal one
+offerRefusal = Offer.offerRefusal single
 
 abbrev pub offerDue : Session → ℕ → List ℕ → Said ℕ
-offerDue = Offer.offerDue one
+offerDue = Offer.offerDue single
 
 abbrev pub offerOf : Session → List ℕ → List ℕ → Outcome Session ℕ
-offerOf = Offer.offerOf one
+offerOf = Offer.offerOf single
 
 abbrev pub Offers : Session → List ℕ → List ℕ → Said ℕ → Session → List ℕ → Type 0
-Offers = Promises.Offers one
+Offers = Promises.Offers single
 
 -- ---- a serve
 
 abbrev pub turn : Session → Turn.Turn
-turn = Turn.turn one
+turn = Turn.turn single
 
 abbrev pub turned : Session → Turn.Turn → Session
-turned = Turn.turned one
+turned = Turn.turned single
 
 abbrev pub shown : Session → ℕ → List ℕ → List ℕ → Turn.Turn → List ℕ
-shown = Turn.shown one
+shown = Turn.shown single
 
 abbrev pub serveRefusal : Session → ℕ → ℕ → ℕ
-serveRefusal = Serve.serveRefusal one
+serveRefusal = Serve.serveRefusal single
 
 abbrev pub serveOf : Session → List ℕ → List ℕ → Outcome Session Turn.Turn
-serveOf = Serve.serveOf one
+serveOf = Serve.serveOf single
 
 abbrev pub Serves : Session → List ℕ → List ℕ → Said Turn.Turn → Session → List ℕ → Type 0
-Serves = Promises.Serves one
+Serves = Promises.Serves single
 
 -- ---- a drain
 
 abbrev pub turns : ℕ → Session → List Turn.Turn
-turns = Turn.turns one
+turns = Turn.turns single
 
 abbrev pub turnedAll : Session → List Turn.Turn → Session
-turnedAll = Turn.turnedAll one
+turnedAll = Turn.turnedAll single
 
 abbrev pub shownAll : Session → ℕ → List ℕ → List ℕ → List Turn.Turn → List ℕ
-shownAll = Turn.shownAll one
+shownAll = Turn.shownAll single
 
 abbrev pub drainRefusal : Session → ℕ → ℕ → ℕ → ℕ
-drainRefusal = Serve.drainRefusal one
+drainRefusal = Serve.drainRefusal single
 
 abbrev pub drainOf : Session → List ℕ → List ℕ → ℕ → Outcome Session (List Turn.Turn)
-drainOf = Serve.drainOf one
+drainOf = Serve.drainOf single
 
 abbrev pub Drains : Session → List ℕ → List ℕ → ℕ → Said (List Turn.Turn) → Session → List ℕ → Type 0
-Drains = Promises.Drains one
+Drains = Promises.Drains single
 
 -- ---- a pass
 
 abbrev pub passRefusal : Session → ℕ
-passRefusal = Pass.passRefusal one
+passRefusal = Pass.passRefusal single
 
 abbrev pub passOf : Session → Outcome Session ℕ
-passOf = Pass.passOf one
+passOf = Pass.passOf single
 
 abbrev pub Passes : Session → Said ℕ → Session → Type 0
-Passes = Promises.Passes one
+Passes = Promises.Passes single

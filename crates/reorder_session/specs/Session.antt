@@ -34,8 +34,8 @@ slot store p = part store (slotStart p) packetSize
 
 -- What the session says of itself: "a session marks what it holds by p mod 32; a mark means the one such p from next to next + 31". With one
 -- consumer the window starts at its next.
-abbrev pub one : Buffer Session
-one =
+abbrev pub single : Buffer Session
+single =
     record {
       broken = broken;
       anchor = λ s. s .anchor;

@@ -7,7 +7,7 @@ use native.Mathlib.Omega.{arith}
 use lib.ListN.{length, replicate, set, length-append}
 use Rattle.window.specs.Window.{heldAt, someHeld}
 use Rattle.window.proofs.Held.{some-held, held-none}
-use Rattle.reorder_rules.specs.Turn as Rules
+use Rattle.reorder_rules.specs.Turn as Turn-rules
 use Rattle.reorder_rules.specs.Turn.{Turn, packet, missing, waiting}
 use Rattle.reorder_rules.proofs.Turns.{Moves}
 use Rattle.reorder_session.specs.declared.Session.{Session}
@@ -24,7 +24,7 @@ pub data Shows (s : Session) : Turn → Type 0 where
       → Shows s waiting
 
 pub shows : (s : Session) → Shows s (turn s)
-unfolding Rules.turn
+unfolding Turn-rules.turn
 shows s = go (heldAt (s .window) (s .window .start)) (someHeld (s .window) (s .window .start + s .threshold)) refl refl
   where
     go : (a b : Bool) → heldAt (s .window) (s .window .start) ≡ a → someHeld (s .window) (s .window .start + s .threshold) ≡ b

@@ -1,5 +1,4 @@
 -- What the answer of a serve stands for.
-use Prim.Native.Nat.{ℕ}
 use Rattle.octets.specs.Refusal.{Said, refused, answered}
 use Rattle.reorder_rules.specs.Turn.{Turn, packet, missing, waiting}
 use Rattle.reorder_turn.specs.declared.ServeAnswer.{ServeAnswer}

@@ -1,5 +1,5 @@
 -- Document 01, "The rack": the descriptions of a drain's answers.
-use Prim.Native.Nat.{ℕ, _-_}
+use Prim.Native.Nat.{_-_}
 use mathlib.Core.List.{List, _++_, map}
 use lib.ListN.{length, replicate}
 use Rattle.octets.specs.Refusal.{Said, refused, answered}

@@ -13,7 +13,7 @@ use Rattle.packet.specs.Read.{said}
 use Rattle.window.specs.Window.{heldAt}
 use Rattle.reorder_rules.specs.Offer.{admitted, offerRefusal, offerDue}
 use Rattle.reorder_rules.proofs.Said.{refusing-now, refusing-next}
-use Rattle.reorder_session.specs.Session.{broken, one}
+use Rattle.reorder_session.specs.Session.{broken, single}
 use Rattle.reorder_session.specs.Calls.{positionOf}
 use Rattle.reorder_admission.proofs.Handed.{handed-on}
 use borrow.Author.Needs.{needs}
@@ -26,7 +26,7 @@ whole c = ap not (sym (c .before .is-broken .ensures) ∙ c .if1 .left)
 
 ready : (c : tie.Else2) (r : ℕ) → let k = c .before .before .before .before in
     r ≡ readRefusal (now (k .args .packet)) (k .args .session .«sum_word»)
-    → r ≡ offerRefusal one (k .args .session) (k .args .store-size) (now (k .args .packet))
+    → r ≡ offerRefusal single (k .args .session) (k .args .store-size) (now (k .args .packet))
 unfolding offerRefusal
 ready c r e = pass _ 30 _ r (whole (c .before)) (pass-eq _ _ 27 _ r (c .if2 .left) e)
 

@@ -2,7 +2,7 @@
 use mathlib.Core.Path.{refl, sym, ap, _∙_}
 use Rattle.reorder_admission.specs.Answer.{offerSaid}
 use Rattle.reorder_rules.specs.Offer.{offerOf}
-use Rattle.reorder_session.specs.Session.{withWindow, one}
+use Rattle.reorder_session.specs.Session.{withWindow, single}
 use Rattle.packet_check.proofs.Accept.{accepted}
 use Rattle.reorder_rules.proofs.Taken.{taken-offer}
 use Rattle.reorder_rules.proofs.Said.{stays, leaves, comes-by}
@@ -35,7 +35,7 @@ mul-put-packet c = search needs
 put-packet-requires : tie.Need-put-packet-requires
 put-packet-requires c κs =
     let e = ap offerSaid (sym (c .before .before .answer .given .1)) ∙ c .before .before .before .before .offer-answer .ensures in
-    accepted _ _ (taken-offer one _ _ _ _ (sym e) .read) .size
+    accepted _ _ (taken-offer single _ _ _ _ (sym e) .read) .size
 
 hold-requires : tie.Need-hold-requires
 hold-requires c κs = search needs

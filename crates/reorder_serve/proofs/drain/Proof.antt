@@ -1,5 +1,4 @@
 -- A refusal leaves everything; else it is the run, whose count is how far next has moved.
-use Prim.Native.Nat.{ℕ, _+_}
 use mathlib.Core.Path.{_≡_, refl, sym, ap, _∙_}
 use mathlib.Core.List.{List}
 use native.Mathlib.Omega.{arith}
@@ -13,7 +12,7 @@ use Rattle.reorder_rules.proofs.Said.{stays, leaves}
 use Rattle.reorder_rules.proofs.Turns.{counted-next}
 use Rattle.reorder_rules.proofs.Ready.{drain-ready}
 use Rattle.reorder_session.specs.declared.Session.{Session}
-use Rattle.reorder_session.specs.Session.{one}
+use Rattle.reorder_session.specs.Session.{single}
 use Rattle.reorder_session.specs.Calls.{turns, drainRefusal, Drains}
 use Rattle.reorder_session.proofs.Whole.{whole}
 use Rattle.reorder_serve.proofs.Reading.{reported}
@@ -38,7 +37,7 @@ returns c =
 
 run-requires : tie.Need-run-requires
 run-requires c κs =
-    let r = drain-ready one _ _ _ _ (passes (c .before)) in
+    let r = drain-ready single _ _ _ _ (passes (c .before)) in
     (whole _ (r .unbroken) .next-most, (r .store, r .most))
 
 same-length : tie.Need-same-length
@@ -57,7 +56,7 @@ returns-2 c =
     (answered ts)
     (record {
       comes = k;
-      count = ap (λ (x : Session). x .window .start) (r .1 .1 .0) ∙ counted-next one (λ x. refl) (λ x. refl) (a .budget) (a .session);
+      count = ap (λ (x : Session). x .window .start) (r .1 .1 .0) ∙ counted-next single (λ x. refl) (λ x. refl) (a .budget) (a .session);
     })
     (record { count = r .0; described = r .1 .0 })
 

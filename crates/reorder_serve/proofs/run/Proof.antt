@@ -6,7 +6,7 @@ use denote.Ref.{now}
 use lib.ListN.{length}
 use Rattle.reorder_rules.proofs.Turns.{shown-length, turns-stop}
 use Rattle.reorder_session.specs.declared.Session.{Session}
-use Rattle.reorder_session.specs.Session.{one}
+use Rattle.reorder_session.specs.Session.{single}
 use Rattle.reorder_session.specs.Calls.{turn, shown}
 use Rattle.reorder_turn.specs.declared.Description.{Description}
 use Rattle.reorder_turn.specs.Described.{described, descriptionOf}
@@ -32,7 +32,7 @@ module _ (c : tie.After-step Inv-loop μ-loop) where
   now-is = L .loop .now
 
   out-size : length (c .step .last .1 .0) ≡ length (now (L .before .before .before .args .out))
-  out-size = ap length (c .step .ensures .1 .1) ∙ shown-length one now-is _ _ _ (turn now-is) ∙ L .loop .inv .size
+  out-size = ap length (c .step .ensures .1 .1) ∙ shown-length single now-is _ _ _ (turn now-is) ∙ L .loop .inv .size
 
 described-is : (c : tie.After-describe Inv-loop μ-loop) → c .describe .result ≡ described (turn (now-is (c .before .before .before)))
 described-is c = c .describe .ensures ∙ ap descriptionOf (c .before .before .before .step .ensures .0)
@@ -56,7 +56,7 @@ returns : tie.Need-returns Inv-loop μ-loop
 returns c =
     let k = c .before .before .before .before .before in
     let w = no-kind (turn (now-is k)) (sym (ap (λ (d : Description). d .kind) (described-is (c .before .before))) ∙ c .if1 .taken) in
-    run-done _ _ _ _ _ _ _ _ (L k .loop .inv) _ (k .step .ensures .1 .1 ∙ ap (shown _ _ _ _) w) (turns-stop one _ _ w)
+    run-done _ _ _ _ _ _ _ _ (L k .loop .inv) _ (k .step .ensures .1 .1 ∙ ap (shown _ _ _ _) w) (turns-stop single _ _ w)
 
 cast-descriptions : tie.Need-cast-descriptions Inv-loop μ-loop
 cast-descriptions c = search needs

@@ -7,7 +7,7 @@ use Rattle.octets.proofs.Ladder.{say-refused, say-answered}
 use Rattle.reorder_rules.specs.Serve.{serveOf}
 use Rattle.reorder_rules.proofs.Said.{stays, leaves, comes-by}
 use Rattle.reorder_rules.proofs.Ready.{ServeReady, serve-ready}
-use Rattle.reorder_session.specs.Session.{one}
+use Rattle.reorder_session.specs.Session.{single}
 use Rattle.reorder_session.specs.Calls.{turn, serveRefusal}
 use Rattle.reorder_session.proofs.Whole.{whole}
 use borrow.Author.Needs.{needs}
@@ -17,8 +17,8 @@ use Rattle.reorder_serve.proofs.serve.Tie as tie
 passes : (c : tie.Else1) → let a = c .before .before .before .before .args in serveRefusal (a .session) (length (now (a .store))) (length (now (a .out))) ≡ 0
 passes c = sym (c .before .serve-refusal .ensures) ∙ c .if1 .left
 
-ready : (c : tie.Else1) → let a = c .before .before .before .before .args in ServeReady one (a .session) (length (now (a .store))) (length (now (a .out)))
-ready c = serve-ready one _ _ _ (passes c)
+ready : (c : tie.Else1) → let a = c .before .before .before .before .args in ServeReady single (a .session) (length (now (a .store))) (length (now (a .out)))
+ready c = serve-ready single _ _ _ (passes c)
 
 serve-refusal-requires : tie.Need-serve-refusal-requires
 serve-refusal-requires c κs = search needs

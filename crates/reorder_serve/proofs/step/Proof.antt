@@ -13,7 +13,7 @@ use Rattle.window.proofs.Held.{has-32-bits}
 use Rattle.reorder_rules.specs.Turn.{Turn}
 use Rattle.reorder_rules.proofs.Turns.{turn-packet, turn-missing, turn-waiting}
 use Rattle.reorder_session.specs.declared.Session.{Session}
-use Rattle.reorder_session.specs.Session.{withWindow, slotStart, one}
+use Rattle.reorder_session.specs.Session.{withWindow, slotStart, single}
 use Rattle.reorder_session.specs.Calls.{turn, turned, shown}
 use borrow.Author.Needs.{needs}
 use Rattle.reorder_serve.proofs.step.Statement.{statement}
@@ -75,7 +75,7 @@ returns c =
     let s = a .session in
     let from = slotStart (s .window .start) in
     did s (a .i) (now (a .store)) (now (a .out)) _ _ _
-    (turn-packet one s (sym (t .before .is-start-held .ensures) ∙ t .if1 .taken))
+    (turn-packet single s (sym (t .before .is-start-held .ensures) ∙ t .if1 .taken))
     (c .with-window .ensures ∙ ap (withWindow s) (c .before .free .ensures ∙ has-32-bits (freed (s .window)) (omega (arith, k .pre .0))))
     (w .write-into .ensures ∙ ap (put (now (a .out)) (1080 * a .i)) (part-is from 1080 (now (a .store))))
 
@@ -95,14 +95,14 @@ returns-2 c =
     let a = k .args in
     let s = a .session in
     did s (a .i) (now (a .store)) (now (a .out)) _ _ _
-    (turn-missing one s (free (h .before)) (sym (h .is-held-ahead .ensures) ∙ c .before .before .if2 .taken))
+    (turn-missing single s (free (h .before)) (sym (h .is-held-ahead .ensures) ∙ c .before .before .if2 .taken))
     (c .with-window2 .ensures ∙ ap (withWindow s) (c .before .skip .ensures ∙ has-32-bits (skipped (s .window)) (omega (arith, k .pre .0)))) refl
 
 returns-3 : tie.Need-returns-3
 returns-3 c =
     let a = c .before .before .before .before .before .before .before .args in
     did (a .session) (a .i) (now (a .store)) (now (a .out)) _ _ _
-    (turn-waiting one (a .session) (free (c .before .before)) (sym (c .before .is-held-ahead .ensures) ∙ c .if2 .left))
+    (turn-waiting single (a .session) (free (c .before .before)) (sym (c .before .is-held-ahead .ensures) ∙ c .if2 .left))
     refl refl
 
 pub step-spec : {M : Type 1} → statement M

@@ -4,7 +4,7 @@ use mathlib.Core.Path.{_≡_, sym, ap, _∙_}
 use mathlib.Core.Bool.{Bool, true, false, not}
 use Rattle.window.specs.Window.{heldAt, someHeld}
 use Rattle.reorder_session.specs.declared.Session.{Session}
-use Rattle.reorder_session.specs.Session.{one}
+use Rattle.reorder_session.specs.Session.{single}
 use Rattle.reorder_session.specs.Calls.{turn}
 use Rattle.reorder_rules.specs.Turn.{isWaiting}
 use Rattle.reorder_rules.proofs.Turns.{turn-packet, turn-missing, turn-waiting}
@@ -14,14 +14,14 @@ use Rattle.reorder_turn.proofs.waits.Tie as tie
 
 by-ahead : (s : Session) → heldAt (s .window) (s .window .start) ≡ false → (b : Bool) → someHeld (s .window) (s .window .start + s .threshold) ≡ b
     → not b ≡ isWaiting (turn s)
-by-ahead s free true e = ap isWaiting (sym (turn-missing one s free e))
-by-ahead s free false e = ap isWaiting (sym (turn-waiting one s free e))
+by-ahead s free true e = ap isWaiting (sym (turn-missing single s free e))
+by-ahead s free false e = ap isWaiting (sym (turn-waiting single s free e))
 
 is-start-held-requires : tie.Need-is-start-held-requires
 is-start-held-requires c κs = search needs
 
 returns : tie.Need-returns
-returns c = ap isWaiting (sym (turn-packet one (c .before .before .before .args .session) (sym (c .before .is-start-held .ensures) ∙ c .if1 .taken)))
+returns c = ap isWaiting (sym (turn-packet single (c .before .before .before .args .session) (sym (c .before .is-start-held .ensures) ∙ c .if1 .taken)))
 
 is-held-ahead-requires : tie.Need-is-held-ahead-requires
 is-held-ahead-requires c κs = search needs
