@@ -2,20 +2,7 @@
 use Prim.Native.Nat.{ℕ, _+_, _%_, _≤_, _<_}
 use mathlib.Core.Path.{_≡_, refl, sym, ap, _∙_, subst}
 use mathlib.Core.Bool.{true}
-use mathlib.Core.List.{
-  List,
-  [],
-  _∷_,
-  _++_,
-  append-assoc,
-  List·Memᴰ,
-  List·Memᴰ·head,
-  Memᴰ·append-left,
-  Memᴰ·append-right,
-  List·Memᴰ·append-cases,
-  List·Memᴰ·eq-of-singleton,
-  List·Memᴰ·not-nil,
-}
+use mathlib.Core.List.{List, [], _∷_, _++_, append-assoc, List·Memᴰ, List·Memᴰ·head, Memᴰ·append-left, Memᴰ·append-right, List·Memᴰ·append-cases, List·Memᴰ·eq-of-singleton, List·Memᴰ·not-nil}
 use mathlib.Core.Logic.{_⊎_, inl, inr, ⊎-elim}
 use native.Mathlib.Decide.{decLt, ℕ-discrete}
 use native.Mathlib.Omega.{arith}
@@ -26,16 +13,18 @@ use Rattle.packet_check.proofs.Accept.{accepted}
 use Rattle.window.specs.Window.{heldAt, holding}
 use Rattle.window.proofs.Held.{held-least, freed-held, skipped-held, holding-same, holding-other}
 use Rattle.reorder_session.specs.declared.Session.{Session}
-use Rattle.reorder_session.specs.Session.{withWindow, slotStart, slot}
+use Rattle.reorder_session.specs.Session.{withWindow, slotStart, slot, single}
 use Rattle.reorder_session.proofs.Whole.{Whole}
-use Rattle.reorder_admission.proofs.Taken.{Taken}
-use Rattle.reorder_turn.specs.Turn.{Turn, packet, missing, waiting, turn, turned}
+use Rattle.reorder_rules.proofs.Taken.{Taken}
+use Rattle.reorder_rules.specs.Turn.{Turn, packet, missing, waiting}
+use Rattle.reorder_session.specs.Calls.{turn, turned}
 use Rattle.reorder_turn.proofs.Turns.{Shows, shows-packet, shows-missing, shows-waiting, shows}
 use Rattle.reorder_laws.specs.Held.{Holds}
 use Rattle.reorder_laws.proofs.Kept.{whole-turned, whole-holding}
 use Rattle.reorder_laws.proofs.Pieces.{piece-same}
 use Rattle.reorder_laws.proofs.Bytes.{beside, turn-gives}
-use Rattle.reorder_histories.specs.Histories.{Event, took, gave, called-missing, State, Served, CalledMissing, StillHeld}
+use Rattle.reorder_histories.specs.History.{Event, took, gave, called-missing}
+use Rattle.reorder_histories.specs.Histories.{State, Served, CalledMissing, StillHeld}
 use Rattle.reorder_histories.proofs.Between.{turnTold, turnedBy, oneTurn, toldBy, turnedOnce}
 
 -- ---- events
@@ -68,9 +57,9 @@ told-missing bytes (missing q) p m =
 told-missing bytes waiting p m = absurd (List·Memᴰ·not-nil m)
 
 -- what is still held stays so where it isn't given and its bytes stay
-still-held : (w v : State) (p : ℕ) (b : List ℕ) (told : List Event) → v .events ≡ w .events ++ told → ((c : List ℕ) → List·Memᴰ (gave p c) told → ⊥)
-    → slot (v .store) p ≡ b → StillHeld w p b → StillHeld v p b
-still-held w v p b told e n s h =
+still-held : (σ v : State) (p : ℕ) (b : List ℕ) (told : List Event) → v .events ≡ σ .events ++ told → ((c : List ℕ) → List·Memᴰ (gave p c) told → ⊥)
+    → slot (v .store) p ≡ b → StillHeld σ p b → StillHeld v p b
+still-held σ v p b told e n s h =
     record {
       earlier = h .earlier;
       since = h .since ++ told;
@@ -82,162 +71,162 @@ still-held w v p b told e n s h =
 -- ---- one reorder buffer
 
 -- every position before next was served or called missing; only those were served; what is marked is still held
-pub record Buffer (w : State) : Type 0 where
-  pub sound : Whole (w .session)
-  pub size : length (w .store) ≡ 34560
-  pub settled : (p : ℕ) → p < w .session .window .next → ((b : List ℕ) × Served w p b) ⊎ CalledMissing w p
-  pub before-next : (p : ℕ) (b : List ℕ) → Served w p b → p < w .session .window .next
-  pub held : (p : ℕ) → heldAt (w .session .window) p ≡ true → StillHeld w p (slot (w .store) p)
+pub record Buffer (σ : State) : Type 0 where
+  pub sound : Whole (σ .session)
+  pub size : length (σ .store) ≡ 34560
+  pub settled : (p : ℕ) → p < σ .session .window .start → ((b : List ℕ) × Served σ p b) ⊎ CalledMissing σ p
+  pub before-next : (p : ℕ) (b : List ℕ) → Served σ p b → p < σ .session .window .start
+  pub held : (p : ℕ) → heldAt (σ .session .window) p ≡ true → StillHeld σ p (slot (σ .store) p)
 
 -- it has served p with these bytes, or holds them there
 abbrev pub Has : State → ℕ → List ℕ → Type 0
-Has w p b = Served w p b ⊎ Holds (w .session) (w .store) p b
+Has σ p b = Served σ p b ⊎ Holds (σ .session) (σ .store) p b
 
 -- ---- a turn
 
 -- positions from the new next on are held as they were
-pub turned-held : (s : Session) (t : Turn) → Shows s t → (p : ℕ) → turned s t .window .next ≤ p → heldAt (turned s t .window) p ≡ heldAt (s .window) p
+pub turned-held : (s : Session) (t : Turn) → Shows s t → (p : ℕ) → turned s t .window .start ≤ p → heldAt (turned s t .window) p ≡ heldAt (s .window) p
 turned-held s (packet n) (shows-packet e) p l = freed-held (s .window) p (omega arith)
 turned-held s (missing n) (shows-missing e q h k) p l = skipped-held (s .window) p e (omega arith)
 turned-held s waiting (shows-waiting e n) p l = refl
 
-pub turned-next : (s : Session) (t : Turn) → (s .window .next ≤ turned s t .window .next) × (turned s t .window .next ≤ s .window .next + 1)
+pub turned-next : (s : Session) (t : Turn) → (s .window .start ≤ turned s t .window .start) × (turned s t .window .start ≤ s .window .start + 1)
 turned-next s (packet n) = (omega arith, omega arith)
 turned-next s (missing n) = (omega arith, omega arith)
 turned-next s waiting = (omega arith, omega arith)
 
 -- what a turn gives was next, and isn't any more
-gives-next : (s : Session) (t : Turn) → Shows s t → (p : ℕ) → t ≡ packet p → p < turned s t .window .next
-gives-next s (packet n) (shows-packet e) p i = let j : s .window .next ≡ p = cc in omega arith
+gives-next : (s : Session) (t : Turn) → Shows s t → (p : ℕ) → t ≡ packet p → p < turned s t .window .start
+gives-next s (packet n) (shows-packet e) p i = let j : s .window .start ≡ p = cc in omega arith
 gives-next s (missing n) (shows-missing e q h k) p i = let z : _≡_ {A = ℕ} 0 1 = cc in absurd (omega arith)
 gives-next s waiting (shows-waiting e n) p i = let z : _≡_ {A = ℕ} 0 1 = cc in absurd (omega arith)
 
 -- a turn serves next, calls it missing, or leaves it
-settles : (w : State) (t : Turn) → Shows (w .session) t → (p : ℕ) → p ≡ w .session .window .next → p < turned (w .session) t .window .next
-    → ((b : List ℕ) × Served (turnedBy w t) p b) ⊎ CalledMissing (turnedBy w t) p
-settles w (packet n) (shows-packet e) p i l =
-    inl (slot (w .store) p, Memᴰ·append-right (w .events) (List·Memᴰ·head (ap (λ (q : ℕ). gave q (slot (w .store) q)) i)))
-settles w (missing n) (shows-missing e q h k) p i l = inr (Memᴰ·append-right (w .events) (List·Memᴰ·head (ap called-missing i)))
-settles w waiting (shows-waiting e n) p i l = absurd (omega arith)
+settles : (σ : State) (t : Turn) → Shows (σ .session) t → (p : ℕ) → p ≡ σ .session .window .start → p < turned (σ .session) t .window .start
+    → ((b : List ℕ) × Served (turnedBy σ t) p b) ⊎ CalledMissing (turnedBy σ t) p
+settles σ (packet n) (shows-packet e) p i l =
+    inl (slot (σ .store) p, Memᴰ·append-right (σ .events) (List·Memᴰ·head (ap (λ (q : ℕ). gave q (slot (σ .store) q)) i)))
+settles σ (missing n) (shows-missing e q h k) p i l = inr (Memᴰ·append-right (σ .events) (List·Memᴰ·head (ap called-missing i)))
+settles σ waiting (shows-waiting e n) p i l = absurd (omega arith)
 
-module _ (w : State) (bf : Buffer w) where
-  pub buffer-turned : Buffer (turnedOnce w)
+module _ (σ : State) (bf : Buffer σ) where
+  pub buffer-turned : Buffer (turnedOnce σ)
   buffer-turned =
       record {
-        sound = whole-turned (w .session) (bf .sound);
+        sound = whole-turned (σ .session) (bf .sound);
         size = bf .size;
-        settled = λ p l. settled p l (decLt p (w .session .window .next));
-        before-next = λ p b m. before-next p b (List·Memᴰ·append-cases (w .events) m);
+        settled = λ p l. settled p l (decLt p (σ .session .window .start));
+        before-next = λ p b m. before-next p b (List·Memᴰ·append-cases (σ .events) m);
         held = λ p h.
-            let l : oneTurn (w .session) .window .next ≤ p = held-least (oneTurn (w .session) .window) p h in
-            still-held w (turnedOnce w) p (slot (w .store) p) (toldBy w) refl
+            let l : oneTurn (σ .session) .window .start ≤ p = held-least (oneTurn (σ .session) .window) p h in
+            still-held σ (turnedOnce σ) p (slot (σ .store) p) (toldBy σ) refl
             (λ c m.
-            let g = told-gave (slot (w .store)) (turn (w .session)) p c m in
-            omega (arith, gives-next (w .session) (turn (w .session)) (shows (w .session)) p (g .0)))
+            let g = told-gave (slot (σ .store)) (turn (σ .session)) p c m in
+            omega (arith, gives-next (σ .session) (turn (σ .session)) (shows (σ .session)) p (g .0)))
             refl
-            (bf .held p (sym (turned-held (w .session) (turn (w .session)) (shows (w .session)) p l) ∙ h));
+            (bf .held p (sym (turned-held (σ .session) (turn (σ .session)) (shows (σ .session)) p l) ∙ h));
       }
     where
-      lift : (p : ℕ) → ((b : List ℕ) × Served w p b) ⊎ CalledMissing w p
-          → ((b : List ℕ) × Served (turnedOnce w) p b) ⊎ CalledMissing (turnedOnce w) p
-      lift p (inl m) = inl (m .0, Memᴰ·append-left (toldBy w) (m .1))
-      lift p (inr m) = inr (Memᴰ·append-left (toldBy w) m)
+      lift : (p : ℕ) → ((b : List ℕ) × Served σ p b) ⊎ CalledMissing σ p
+          → ((b : List ℕ) × Served (turnedOnce σ) p b) ⊎ CalledMissing (turnedOnce σ) p
+      lift p (inl m) = inl (m .0, Memᴰ·append-left (toldBy σ) (m .1))
+      lift p (inr m) = inr (Memᴰ·append-left (toldBy σ) m)
 
-      settled : (p : ℕ) → p < oneTurn (w .session) .window .next → Dec (p < w .session .window .next)
-          → ((b : List ℕ) × Served (turnedOnce w) p b) ⊎ CalledMissing (turnedOnce w) p
+      settled : (p : ℕ) → p < oneTurn (σ .session) .window .start → Dec (p < σ .session .window .start)
+          → ((b : List ℕ) × Served (turnedOnce σ) p b) ⊎ CalledMissing (turnedOnce σ) p
       settled p l (yes k) = lift p (bf .settled p k)
       settled p l (no k) =
-          settles w (turn (w .session)) (shows (w .session)) p (omega (arith, turned-next (w .session) (turn (w .session)) .1)) l
+          settles σ (turn (σ .session)) (shows (σ .session)) p (omega (arith, turned-next (σ .session) (turn (σ .session)) .1)) l
 
-      before-next : (p : ℕ) (b : List ℕ) → List·Memᴰ (gave p b) (w .events) ⊎ List·Memᴰ (gave p b) (toldBy w)
-          → p < oneTurn (w .session) .window .next
-      before-next p b (inl m) = omega (arith, bf .before-next p b m, turned-next (w .session) (turn (w .session)) .0)
+      before-next : (p : ℕ) (b : List ℕ) → List·Memᴰ (gave p b) (σ .events) ⊎ List·Memᴰ (gave p b) (toldBy σ)
+          → p < oneTurn (σ .session) .window .start
+      before-next p b (inl m) = omega (arith, bf .before-next p b m, turned-next (σ .session) (turn (σ .session)) .0)
       before-next p b (inr m) =
-          gives-next (w .session) (turn (w .session)) (shows (w .session)) p (told-gave (slot (w .store)) (turn (w .session)) p b m .0)
+          gives-next (σ .session) (turn (σ .session)) (shows (σ .session)) p (told-gave (slot (σ .store)) (turn (σ .session)) p b m .0)
 
-  pub has-turned : (p : ℕ) (b : List ℕ) → Has w p b → Has (turnedOnce w) p b
-  has-turned p b (inl m) = inl (Memᴰ·append-left (toldBy w) m)
-  has-turned p b (inr h) = go (turn-gives (w .session) (w .store) p b h)
+  pub has-turned : (p : ℕ) (b : List ℕ) → Has σ p b → Has (turnedOnce σ) p b
+  has-turned p b (inl m) = inl (Memᴰ·append-left (toldBy σ) m)
+  has-turned p b (inr h) = go (turn-gives (σ .session) (σ .store) p b h)
     where
-      given : (u : Turn) → u ≡ packet p → List·Memᴰ (gave p b) (turnTold (slot (w .store)) u)
+      given : (u : Turn) → u ≡ packet p → List·Memᴰ (gave p b) (turnTold (slot (σ .store)) u)
       given u e =
-          subst (λ (v : Turn). List·Memᴰ (gave p b) (turnTold (slot (w .store)) v)) (sym e) (List·Memᴰ·head (ap (gave p) (sym (h .bytes))))
+          subst (λ (v : Turn). List·Memᴰ (gave p b) (turnTold (slot (σ .store)) v)) (sym e) (List·Memᴰ·head (ap (gave p) (sym (h .bytes))))
 
-      go : Holds (oneTurn (w .session)) (w .store) p b ⊎ (turn (w .session) ≡ packet p) → Has (turnedOnce w) p b
+      go : Holds (oneTurn (σ .session)) (σ .store) p b ⊎ (turn (σ .session) ≡ packet p) → Has (turnedOnce σ) p b
       go (inl k) = inr k
-      go (inr e) = inl (Memᴰ·append-right (w .events) (given (turn (w .session)) e))
+      go (inr e) = inl (Memᴰ·append-right (σ .events) (given (turn (σ .session)) e))
 
 -- ---- a taken offer
 
 -- the state after an offer of b is answered with p
 abbrev pub takes : State → ℕ → List ℕ → State
-takes w p b =
+takes σ p b =
     record {
-      session = withWindow (w .session) (holding (w .session .window) p);
-      store = put (w .store) (slotStart p) b;
-      events = w .events ++ took p b ∷ [];
+      session = withWindow (σ .session) (holding (σ .session .window) p);
+      store = put (σ .store) (slotStart p) b;
+      events = σ .events ++ took p b ∷ [];
     }
 
 abbrev pub Takes : State → ℕ → List ℕ → Type 0
-Takes w p b = Taken (w .session) (length (w .store)) b p
+Takes σ p b = Taken single (σ .session) (length (σ .store)) b p
 
-module _ (w : State) (p : ℕ) (b : List ℕ) (tk : Takes w p b) where
-  pub took-other : (q : ℕ) → (q ≡ p → ⊥) → heldAt (takes w p b .session .window) q ≡ heldAt (w .session .window) q
-  took-other q n = holding-other (w .session .window) p (tk .position .least) (tk .position .near) q n
+module _ (σ : State) (p : ℕ) (b : List ℕ) (tk : Takes σ p b) where
+  pub took-other : (q : ℕ) → (q ≡ p → ⊥) → heldAt (takes σ p b .session .window) q ≡ heldAt (σ .session .window) q
+  took-other q n = holding-other (σ .session .window) p (tk .position .least) (tk .position .near) q n
 
-  pub took-same : heldAt (takes w p b .session .window) p ≡ true
-  took-same = holding-same (w .session .window) p (tk .position .least) (tk .position .near)
+  pub took-same : heldAt (takes σ p b .session .window) p ≡ true
+  took-same = holding-same (σ .session .window) p (tk .position .least) (tk .position .near)
 
   -- its bytes are stored, and the bytes of what was held stay
-  pub took-bytes : slot (takes w p b .store) p ≡ b
-  took-bytes = piece-same (w .store) b (p % 32) (accepted b (w .session .«sum_word») (tk .read) .size) (omega (arith, tk .store))
+  pub took-bytes : slot (takes σ p b .store) p ≡ b
+  took-bytes = piece-same (σ .store) b (p % 32) (accepted b (σ .session .«sum_word») (tk .read) .size) (omega (arith, tk .store))
 
-  pub slot-stays : (q : ℕ) → heldAt (w .session .window) q ≡ true → slot (takes w p b .store) q ≡ slot (w .store) q
-  slot-stays q h = beside (w .session) (w .store) q (slot (w .store) q) (record { held = h; bytes = refl }) b p tk .bytes
+  pub slot-stays : (q : ℕ) → heldAt (σ .session .window) q ≡ true → slot (takes σ p b .store) q ≡ slot (σ .store) q
+  slot-stays q h = beside (σ .session) (σ .store) q (slot (σ .store) q) (record { held = h; bytes = refl }) b p tk .bytes
 
   -- it tells of nothing else
-  pub took-gave : (q : ℕ) (c : List ℕ) → Served (takes w p b) q c → Served w q c
+  pub took-gave : (q : ℕ) (c : List ℕ) → Served (takes σ p b) q c → Served σ q c
   took-gave q c m =
-      ⊎-elim (λ (k : Served w q c). k) (λ (k : List·Memᴰ (gave q c) (took p b ∷ [])). absurd (gave≢took q p c b (List·Memᴰ·eq-of-singleton k)))
-      (List·Memᴰ·append-cases (w .events) m)
+      ⊎-elim (λ (k : Served σ q c). k) (λ (k : List·Memᴰ (gave q c) (took p b ∷ [])). absurd (gave≢took q p c b (List·Memᴰ·eq-of-singleton k)))
+      (List·Memᴰ·append-cases (σ .events) m)
 
-  pub took-missing : (q : ℕ) → CalledMissing (takes w p b) q → CalledMissing w q
+  pub took-missing : (q : ℕ) → CalledMissing (takes σ p b) q → CalledMissing σ q
   took-missing q m =
-      ⊎-elim (λ (k : CalledMissing w q). k)
+      ⊎-elim (λ (k : CalledMissing σ q). k)
       (λ (k : List·Memᴰ (called-missing q) (took p b ∷ [])). absurd (missing≢took q p b (List·Memᴰ·eq-of-singleton k)))
-      (List·Memᴰ·append-cases (w .events) m)
+      (List·Memᴰ·append-cases (σ .events) m)
 
-  pub has-taken : (q : ℕ) (c : List ℕ) → Has w q c → Has (takes w p b) q c
+  pub has-taken : (q : ℕ) (c : List ℕ) → Has σ q c → Has (takes σ p b) q c
   has-taken q c (inl m) = inl (Memᴰ·append-left (took p b ∷ []) m)
-  has-taken q c (inr h) = inr (beside (w .session) (w .store) q c h b p tk)
+  has-taken q c (inr h) = inr (beside (σ .session) (σ .store) q c h b p tk)
 
-  pub buffer-taken : Buffer w → Buffer (takes w p b)
+  pub buffer-taken : Buffer σ → Buffer (takes σ p b)
   buffer-taken bf =
       record {
-        sound = whole-holding (w .session) (bf .sound) p (tk .position .least) (tk .position .near) (tk .position .most);
-        size = put-length (w .store) (slotStart p) b ∙ bf .size;
+        sound = whole-holding (σ .session) (bf .sound) p (tk .position .least) (tk .position .near) (tk .position .most);
+        size = put-length (σ .store) (slotStart p) b ∙ bf .size;
         settled = λ q l. lift q (bf .settled q l);
         before-next = λ q c m. bf .before-next q c (took-gave q c m);
         held = λ q h. held q h (ℕ-discrete q p);
       }
     where
-      lift : (q : ℕ) → ((c : List ℕ) × Served w q c) ⊎ CalledMissing w q → ((c : List ℕ) × Served (takes w p b) q c) ⊎ CalledMissing (takes w p b) q
+      lift : (q : ℕ) → ((c : List ℕ) × Served σ q c) ⊎ CalledMissing σ q → ((c : List ℕ) × Served (takes σ p b) q c) ⊎ CalledMissing (takes σ p b) q
       lift q (inl m) = inl (m .0, Memᴰ·append-left (took p b ∷ []) (m .1))
       lift q (inr m) = inr (Memᴰ·append-left (took p b ∷ []) m)
 
-      new : StillHeld (takes w p b) p (slot (takes w p b .store) p)
+      new : StillHeld (takes σ p b) p (slot (takes σ p b .store) p)
       new = record {
-        earlier = w .events;
+        earlier = σ .events;
         since = [];
-        taken = ap (λ (c : List ℕ). w .events ++ took p c ∷ []) (sym took-bytes);
+        taken = ap (λ (c : List ℕ). σ .events ++ took p c ∷ []) (sym took-bytes);
         not-given = λ c m. List·Memᴰ·not-nil m;
         bytes = refl;
       }
 
-      held : (q : ℕ) → heldAt (takes w p b .session .window) q ≡ true → Dec (q ≡ p) → StillHeld (takes w p b) q (slot (takes w p b .store) q)
-      held q h (yes i) = subst (λ (k : ℕ). StillHeld (takes w p b) k (slot (takes w p b .store) k)) (sym i) new
+      held : (q : ℕ) → heldAt (takes σ p b .session .window) q ≡ true → Dec (q ≡ p) → StillHeld (takes σ p b) q (slot (takes σ p b .store) q)
+      held q h (yes i) = subst (λ (k : ℕ). StillHeld (takes σ p b) k (slot (takes σ p b .store) k)) (sym i) new
       held q h (no n) =
-          let old : heldAt (w .session .window) q ≡ true = sym (took-other q n) ∙ h in
+          let old : heldAt (σ .session .window) q ≡ true = sym (took-other q n) ∙ h in
           let same = slot-stays q old in
-          subst (StillHeld (takes w p b) q) (sym same)
-          (still-held w (takes w p b) q (slot (w .store) q) (took p b ∷ []) refl (λ c m. gave≢took q p c b (List·Memᴰ·eq-of-singleton m)) same (bf .held q old))
+          subst (StillHeld (takes σ p b) q) (sym same)
+          (still-held σ (takes σ p b) q (slot (σ .store) q) (took p b ∷ []) refl (λ c m. gave≢took q p c b (List·Memᴰ·eq-of-singleton m)) same (bf .held q old))

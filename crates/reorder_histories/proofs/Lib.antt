@@ -4,3 +4,4 @@ pub mod Link
 pub mod Offers
 pub mod Theorem
 pub mod Waiting
+pub mod Made

@@ -10,31 +10,14 @@ use Rattle.window.specs.Window.{heldAt}
 use Rattle.window.proofs.Held.{held-least}
 use Rattle.reorder_session.specs.declared.Session.{Session}
 use Rattle.reorder_session.specs.Session.{slot}
-use Rattle.reorder_turn.specs.Turn.{Turn, packet, missing, waiting, turn, turned}
+use Rattle.reorder_rules.specs.Turn.{Turn, packet, missing, waiting}
+use Rattle.reorder_session.specs.Calls.{turn, turned}
 use Rattle.reorder_turn.proofs.Turns.{Shows, shows-packet, shows-missing, shows-waiting, shows}
 use Rattle.reorder_laws.proofs.Kept.{keeps-turned}
-use Rattle.reorder_histories.specs.Histories.{took, gave, called-missing, State, Served, CalledMissing, StillHeld, NothingLost}
+use Rattle.reorder_histories.specs.History.{took, gave, called-missing}
+use Rattle.reorder_histories.specs.Histories.{State, Served, CalledMissing, StillHeld, NothingLost}
 use Rattle.reorder_histories.proofs.Between.{turnTold, afterTurn, oneTurn, toldBy, turnedOnce}
-use Rattle.reorder_histories.proofs.Buffer.{
-  told-gave,
-  told-missing,
-  Buffer,
-  Has,
-  turned-held,
-  turned-next,
-  buffer-turned,
-  has-turned,
-  takes,
-  Takes,
-  took-other,
-  took-same,
-  took-bytes,
-  slot-stays,
-  took-gave,
-  took-missing,
-  has-taken,
-  buffer-taken,
-}
+use Rattle.reorder_histories.proofs.Buffer.{told-gave, told-missing, Buffer, Has, turned-held, turned-next, buffer-turned, has-turned, takes, Takes, took-other, took-same, took-bytes, slot-stays, took-gave, took-missing, has-taken, buffer-taken}
 
 -- opened alike but for the threshold
 pub record Alike (s t : Session) : Type 0 where
@@ -47,11 +30,11 @@ pub record Link (f : ℕ) (a b : State) : Type 0 where
   pub buffer-a : Buffer a
   pub buffer-b : Buffer b
   pub alike : Alike (a .session) (b .session)
-  pub next-a : a .session .window .next ≤ f
-  pub next-b : b .session .window .next ≤ f
+  pub next-a : a .session .window .start ≤ f
+  pub next-b : b .session .window .start ≤ f
   pub above : (p : ℕ) → f ≤ p → heldAt (a .session .window) p ≡ heldAt (b .session .window) p
   pub bytes : (p : ℕ) → f ≤ p → heldAt (a .session .window) p ≡ true → slot (a .store) p ≡ slot (b .store) p
-  pub due : (p : ℕ) → a .session .window .next ≤ p → p < f → (heldAt (a .session .window) p ≡ true) × Has b p (slot (a .store) p)
+  pub due : (p : ℕ) → a .session .window .start ≤ p → p < f → (heldAt (a .session .window) p ≡ true) × Has b p (slot (a .store) p)
   pub served : (p : ℕ) (c : List ℕ) → Served a p c → Has b p c
   pub missing-too : (p : ℕ) → CalledMissing b p → CalledMissing a p
 
@@ -61,14 +44,14 @@ pub record Quiet (f : ℕ) (a : State) : Type 0 where
   pub near : (q : ℕ) → heldAt (a .session .window) q ≡ true → f + a .session .threshold ≤ q → ⊥
 
 -- and no turn of it goes past f
-stays-below : (f : ℕ) (w : State) → w .session .window .next ≤ f → Quiet f w → oneTurn (w .session) .window .next ≤ f
-stays-below f w l quiet = go (turn (w .session)) (shows (w .session)) (decLt (w .session .window .next) f)
+stays-below : (f : ℕ) (σ : State) → σ .session .window .start ≤ f → Quiet f σ → oneTurn (σ .session) .window .start ≤ f
+stays-below f σ l quiet = go (turn (σ .session)) (shows (σ .session)) (decLt (σ .session .window .start) f)
   where
-    go : (t : Turn) → Shows (w .session) t → Dec (w .session .window .next < f) → turned (w .session) t .window .next ≤ f
+    go : (t : Turn) → Shows (σ .session) t → Dec (σ .session .window .start < f) → turned (σ .session) t .window .start ≤ f
     go (packet n) (shows-packet h) (yes k) = omega arith
     go (packet n) (shows-packet h) (no m) =
-        let e : w .session .window .next ≡ f = omega arith in
-        absurd (true≢false (sym h ∙ ap (heldAt (w .session .window)) e ∙ quiet .free))
+        let e : σ .session .window .start ≡ f = omega arith in
+        absurd (true≢false (sym h ∙ ap (heldAt (σ .session .window)) e ∙ quiet .free))
     go (missing n) (shows-missing h q k g) (yes i) = omega arith
     go (missing n) (shows-missing h q k g) (no m) = absurd (quiet .near q k (omega arith))
     go waiting (shows-waiting h n) d = l
@@ -103,8 +86,8 @@ alike-b s t k =
 -- ---- the one with the lower threshold takes a turn
 
 -- what a turn gives is next, and was held
-pub gave-held : (s : Session) (t : Turn) → Shows s t → (p : ℕ) → t ≡ packet p → (s .window .next ≡ p) × (heldAt (s .window) p ≡ true)
-gave-held s (packet n) (shows-packet h) p e = let i : s .window .next ≡ p = cc in (i, ap (heldAt (s .window)) (sym i) ∙ h)
+pub gave-held : (s : Session) (t : Turn) → Shows s t → (p : ℕ) → t ≡ packet p → (s .window .start ≡ p) × (heldAt (s .window) p ≡ true)
+gave-held s (packet n) (shows-packet h) p e = let i : s .window .start ≡ p = cc in (i, ap (heldAt (s .window)) (sym i) ∙ h)
 gave-held s (missing n) (shows-missing h q k l) p e = let z : _≡_ {A = ℕ} 0 1 = cc in absurd (omega arith)
 gave-held s waiting (shows-waiting h n) p e = let z : _≡_ {A = ℕ} 0 1 = cc in absurd (omega arith)
 
@@ -116,13 +99,13 @@ module _ (f : ℕ) (a b : State) (lk : Link f a b) where
       let h = gave-held (a .session) (turn (a .session)) (shows (a .session)) p (g .0) in
       subst (Has b p) (g .1) (has p (h .0) (h .1) (decLt p f))
     where
-      has : (q : ℕ) → a .session .window .next ≡ q → heldAt (a .session .window) q ≡ true → Dec (q < f) → Has b q (slot (a .store) q)
+      has : (q : ℕ) → a .session .window .start ≡ q → heldAt (a .session .window) q ≡ true → Dec (q < f) → Has b q (slot (a .store) q)
       has q i h (yes l) = lk .due q (omega arith) l .1
       has q i h (no n) = inr (record { held = sym (lk .above q (omega arith)) ∙ h; bytes = sym (lk .bytes q (omega arith) h) })
 
   -- the frontier stays, or moves to the new next
-  a-turns : (g : ℕ) → f ≤ g → oneTurn (a .session) .window .next ≤ g
-      → (g ≤ f) ⊎ (g ≤ oneTurn (a .session) .window .next) → Link g (turnedOnce a) b
+  a-turns : (g : ℕ) → f ≤ g → oneTurn (a .session) .window .start ≤ g
+      → (g ≤ f) ⊎ (g ≤ oneTurn (a .session) .window .start) → Link g (turnedOnce a) b
   a-turns g up l which =
       record {
         buffer-a = buffer-turned a (lk .buffer-a);
@@ -139,31 +122,31 @@ module _ (f : ℕ) (a b : State) (lk : Link f a b) where
         missing-too = λ p m. Memᴰ·append-left (toldBy a) (lk .missing-too p m);
       }
     where
-      same : (p : ℕ) → oneTurn (a .session) .window .next ≤ p
+      same : (p : ℕ) → oneTurn (a .session) .window .start ≤ p
           → heldAt (oneTurn (a .session) .window) p ≡ heldAt (a .session .window) p
       same p k = turned-held (a .session) (turn (a .session)) (shows (a .session)) p k
 
-      before : (p : ℕ) → oneTurn (a .session) .window .next ≤ p → p < g
-          → (g ≤ f) ⊎ (g ≤ oneTurn (a .session) .window .next) → p < f
+      before : (p : ℕ) → oneTurn (a .session) .window .start ≤ p → p < g
+          → (g ≤ f) ⊎ (g ≤ oneTurn (a .session) .window .start) → p < f
       before p k m (inl i) = omega arith
       before p k m (inr i) = absurd (omega arith)
 
   pub turn-a : (g : ℕ) × Link g (afterTurn a) b
   unfolding afterTurn
-  turn-a = go (decLt f (oneTurn (a .session) .window .next))
+  turn-a = go (decLt f (oneTurn (a .session) .window .start))
     where
-      go : Dec (f < oneTurn (a .session) .window .next) → (g : ℕ) × Link g (turnedOnce a) b
+      go : Dec (f < oneTurn (a .session) .window .start) → (g : ℕ) × Link g (turnedOnce a) b
       go (yes l) =
-          let n = oneTurn (a .session) .window .next in
+          let n = oneTurn (a .session) .window .start in
           (n, a-turns n (omega arith) (omega arith) (inr (omega arith)))
       go (no m) = (f, a-turns f (omega arith) (omega arith) (inl (omega arith)))
 
   -- what isn't held isn't before the frontier
-  pub at-frontier : heldAt (a .session .window) (a .session .window .next) ≡ false → f ≡ a .session .window .next
-  at-frontier h = go (decLt (a .session .window .next) f)
+  pub at-frontier : heldAt (a .session .window) (a .session .window .start) ≡ false → f ≡ a .session .window .start
+  at-frontier h = go (decLt (a .session .window .start) f)
     where
-      go : Dec (a .session .window .next < f) → f ≡ a .session .window .next
-      go (yes l) = absurd (true≢false (sym (lk .due (a .session .window .next) (omega arith) l .0) ∙ h))
+      go : Dec (a .session .window .start < f) → f ≡ a .session .window .start
+      go (yes l) = absurd (true≢false (sym (lk .due (a .session .window .start) (omega arith) l .0) ∙ h))
       go (no n) = omega (arith, lk .next-a)
 
   pub turn-a-quiet : Quiet f a → Link f (afterTurn a) b × Quiet f (afterTurn a)
@@ -184,9 +167,9 @@ module _ (f : ℕ) (a b : State) (lk : Link f a b) where
 
 -- what a turn calls missing is next, and was not held
 missed : (s : Session) (t : Turn) → Shows s t → (p : ℕ) → t ≡ missing p
-    → (s .window .next ≡ p) × (heldAt (s .window) p ≡ false) × (p < turned s t .window .next)
+    → (s .window .start ≡ p) × (heldAt (s .window) p ≡ false) × (p < turned s t .window .start)
 missed s (packet n) (shows-packet h) p e = let z : _≡_ {A = ℕ} 0 1 = cc in absurd (omega arith)
-missed s (missing n) (shows-missing h q k l) p e = let i : s .window .next ≡ p = cc in (i, ap (heldAt (s .window)) (sym i) ∙ h, omega arith)
+missed s (missing n) (shows-missing h q k l) p e = let i : s .window .start ≡ p = cc in (i, ap (heldAt (s .window)) (sym i) ∙ h, omega arith)
 missed s waiting (shows-waiting h n) p e = let z : _≡_ {A = ℕ} 0 1 = cc in absurd (omega arith)
 
 module _ (f : ℕ) (a b : State) (lk : Link f a b) (quiet : Quiet f a) where
@@ -198,20 +181,20 @@ module _ (f : ℕ) (a b : State) (lk : Link f a b) (quiet : Quiet f a) where
         near = λ q h l. quiet .near q (lk .above q (omega arith) ∙ h) (omega (arith, lk .alike .thresholds));
       }
 
-  b-below : oneTurn (b .session) .window .next ≤ f
+  b-below : oneTurn (b .session) .window .start ≤ f
   b-below = stays-below f b (lk .next-b) quiet-too
 
   -- what b calls missing it neither gave nor holds, so a has called it missing
   missing-a : (p : ℕ) → turn (b .session) ≡ missing p → CalledMissing a p
   missing-a p e =
       let m = missed (b .session) (turn (b .session)) (shows (b .session)) p e in
-      go (m .0) (m .1) (omega (arith, m .2, b-below)) (decLt p (a .session .window .next))
+      go (m .0) (m .1) (omega (arith, m .2, b-below)) (decLt p (a .session .window .start))
     where
-      never : (c : List ℕ) → b .session .window .next ≡ p → heldAt (b .session .window) p ≡ false → Has b p c → ⊥
+      never : (c : List ℕ) → b .session .window .start ≡ p → heldAt (b .session .window) p ≡ false → Has b p c → ⊥
       never c i h (inl m) = omega (arith, lk .buffer-b .before-next p c m)
       never c i h (inr k) = true≢false (sym (k .held) ∙ h)
 
-      go : b .session .window .next ≡ p → heldAt (b .session .window) p ≡ false → p < f → Dec (p < a .session .window .next) → CalledMissing a p
+      go : b .session .window .start ≡ p → heldAt (b .session .window) p ≡ false → p < f → Dec (p < a .session .window .start) → CalledMissing a p
       go i h l (yes k) =
           ⊎-elim (λ (m : (c : List ℕ) × Served a p c). absurd (never (m .0) i h (lk .served p (m .0) (m .1)))) (λ (m : CalledMissing a p). m)
           (lk .buffer-a .settled p k)

@@ -6,27 +6,28 @@ use mathlib.Core.List.{List, [], _∷_, List·Memᴰ, List·Memᴰ·eq-of-single
 use mathlib.Core.Logic.{inr}
 use native.Mathlib.Omega.{arith}
 use lib.ListN.{length}
+use Rattle.reorder_rules.specs.Serve as Serve-rules
 use Rattle.octets.specs.Refusal.{answered, say}
 use Rattle.octets.proofs.Ladder.{answer-said}
 use Rattle.packet.specs.Fields.{fieldsOf}
 use Rattle.window.specs.declared.Window.{Window}
-use Rattle.window.specs.Window.{heldAt}
+use Rattle.window.specs.Window.{heldAt, firstWindow}
 use Rattle.window.proofs.Tests.{not-then-false}
 use Rattle.window.proofs.Held.{first-held}
 use Rattle.reorder_session.specs.declared.Session.{Session}
 use Rattle.reorder_session.specs.Session.{slot}
-use Rattle.reorder.specs.Offer.{firstWindow, opened, openSaid, openOf}
-use Rattle.reorder_session.proofs.Said.{left}
-use Rattle.reorder_session.proofs.Whole.{Whole, whole}
-use Rattle.reorder.proofs.Opening.{accepted-opening}
-use Rattle.reorder_turn.specs.Turn.{Turn, packet, missing, waiting, turn, turned, shown}
-use Rattle.reorder_turn.specs.Refusals.{serveRefusal}
-use Rattle.reorder_serve.specs.Serve.{serveOf}
+use Rattle.reorder_offer.specs.Opening.{opened, openDue, openOf}
+use Rattle.reorder_rules.proofs.Said.{left}
+use Rattle.reorder_rules.specs.Turn.{Turn, packet, missing, waiting}
+use Rattle.reorder_session.specs.Calls.{turn, turned, shown, serveRefusal, serveOf}
 use Rattle.reorder_turn.proofs.Turns.{Shows, shows-packet, shows-missing, shows-waiting, shows}
+use Rattle.reorder_session.proofs.Whole.{Whole, whole}
+use Rattle.reorder_offer.proofs.Opening.{accepted-opening}
 use Rattle.reorder_laws.specs.Held.{Holds}
 use Rattle.reorder_laws.proofs.Kept.{calls-keep}
 use Rattle.reorder_laws.proofs.Bytes.{bytes-come-out}
-use Rattle.reorder_histories.specs.Histories.{offer, offers, Event, took, offerTells, State, step, run, Waits, WaitsAfter, Consumer, opening, atStart, StillHeld, HigherThresholdLosesNothing}
+use Rattle.reorder_histories.specs.History.{offer, offers, Event, took, offerTells}
+use Rattle.reorder_histories.specs.Histories.{State, step, run, Waits, WaitsAfter, Consumer, opening, atStart, StillHeld, HigherThresholdLosesNothing}
 use Rattle.reorder_histories.proofs.Between.{afterTurn, afterTurns, Played, played}
 use Rattle.reorder_histories.proofs.Buffer.{gave≢took, missing≢took, Buffer, Has}
 use Rattle.reorder_histories.proofs.Link.{Link, Quiet, at-frontier, turn-a, turn-a-quiet, turn-b, nothing-lost}
@@ -34,12 +35,12 @@ use Rattle.reorder_histories.proofs.Offers.{link-offer}
 
 -- ---- a buffer that waits
 
-waits-turn : (w : State) → Waits w → turn (w .session) ≡ waiting
-unfolding serveOf
-waits-turn w q =
-    let s = w .session in
-    let n = serveRefusal s (length (w .store)) (length (q .out)) in
-    let l = left (say n (turn s)) s (q .out) (turned s) (shown 0 (w .store) (q .out)) waiting (q .answers) in
+waits-turn : (σ : State) → Waits σ → turn (σ .session) ≡ waiting
+unfolding Serve-rules.serveOf
+waits-turn σ q =
+    let s = σ .session in
+    let n = serveRefusal s (length (σ .store)) (length (q .out)) in
+    let l = left (say n (turn s)) s (q .out) (turned s) (shown s 0 (σ .store) (q .out)) waiting (q .answers) in
     sym (answer-said n (turn s) waiting (sym (l .answer)) .1)
 
 waits-quiet : (f : ℕ) (a b : State) → Link f a b → Waits a → Quiet f a
@@ -49,7 +50,7 @@ waits-quiet f a b lk q = go (turn (a .session)) (shows (a .session)) (waits-turn
     go (packet p) (shows-packet h) e = let z : _≡_ {A = ℕ} 0 1 = cc in absurd (omega arith)
     go (missing p) (shows-missing h r k l) e = let z : _≡_ {A = ℕ} 0 1 = cc in absurd (omega arith)
     go waiting (shows-waiting h n) e =
-        let i : f ≡ a .session .window .next = at-frontier f a b lk h in
+        let i : f ≡ a .session .window .start = at-frontier f a b lk h in
         record { free = ap (heldAt (a .session .window)) i ∙ h; near = λ r k m. n r k (omega arith) }
 
 -- ---- the turns between two offers
@@ -99,59 +100,59 @@ link-played (x ∷ xs) offered f a b u v lk r p q =
 -- ---- the openings
 
 -- what an accepted opening leaves
-record First (w : State) (b : List ℕ) (h word : ℕ) : Type 0 where
-  session : w .session ≡ opened (fieldsOf b) h word
-  events : w .events ≡ took 0 b ∷ []
-  sound : Whole (w .session)
-  size : length (w .store) ≡ 34560
-  holds : Holds (w .session) (w .store) 0 b
+record First (σ : State) (b : List ℕ) (h word : ℕ) : Type 0 where
+  session : σ .session ≡ opened (fieldsOf b) h word
+  events : σ .events ≡ took 0 b ∷ []
+  sound : Whole (σ .session)
+  size : length (σ .store) ≡ 34560
+  holds : Holds (σ .session) (σ .store) 0 b
 
 -- its store has the right size
 pub opened-size : (c : Consumer) (b : List ℕ) (word : ℕ) → opening c b word .said ≡ answered 0 → length (c .store) ≡ 34560
 unfolding openOf
 opened-size c b word e =
-    let l = left (openSaid (length (c .store)) b (c .threshold) word) (c .before) (c .store) _ _ 0 e in
+    let l = left (openDue (length (c .store)) b (c .threshold) word) (c .before) (c .store) _ _ 0 e in
     accepted-opening (length (c .store)) b (c .threshold) word 0 (l .answer) .store
 
-first : (c : Consumer) (b : List ℕ) (w : ℕ) → opening c b w .said ≡ answered 0 → First (atStart c b w) b (c .threshold) w
+first : (c : Consumer) (b : List ℕ) (word : ℕ) → opening c b word .said ≡ answered 0 → First (atStart c b word) b (c .threshold) word
 unfolding openOf
-first c b w e =
-    let l = left (openSaid (length (c .store)) b (c .threshold) w) (c .before) (c .store) _ _ 0 e in
+first c b word e =
+    let l = left (openDue (length (c .store)) b (c .threshold) word) (c .before) (c .store) _ _ 0 e in
     record {
       session = l .session;
       events = ap (λ (x : _). offerTells x b) e;
-      sound = whole _ (calls-keep .by-open (c .before) (c .store) b (c .threshold) w 0 e);
-      size = calls-keep .by-open-store (c .before) (c .store) b (c .threshold) w ∙ opened-size c b w e;
-      holds = bytes-come-out .open-holds (c .before) (c .store) b (c .threshold) w 0 e;
+      sound = whole _ (calls-keep .by-open (c .before) (c .store) b (c .threshold) word 0 e);
+      size = calls-keep .by-open-store (c .before) (c .store) b (c .threshold) word ∙ opened-size c b word e;
+      holds = bytes-come-out .open-holds (c .before) (c .store) b (c .threshold) word 0 e;
     }
 
-module _ (w : State) (b : List ℕ) (h word : ℕ) (fs : First w b h word) where
-  window-is : w .session .window ≡ firstWindow
+module _ (σ : State) (b : List ℕ) (h word : ℕ) (fs : First σ b h word) where
+  window-is : σ .session .window ≡ firstWindow
   window-is = ap (λ (s : Session). s .window) (fs .session)
 
-  held-zero : (p : ℕ) → heldAt (w .session .window) p ≡ true → p ≡ 0
+  held-zero : (p : ℕ) → heldAt (σ .session .window) p ≡ true → p ≡ 0
   held-zero p e = first-held p (ap (λ (v : Window). heldAt v p) (sym window-is) ∙ e)
 
-  held-only : (p : ℕ) → 1 ≤ p → heldAt (w .session .window) p ≡ false
-  held-only p l = not-then-false (heldAt (w .session .window) p) (λ e. omega (arith, held-zero p e))
+  held-only : (p : ℕ) → 1 ≤ p → heldAt (σ .session .window) p ≡ false
+  held-only p l = not-then-false (heldAt (σ .session .window) p) (λ e. omega (arith, held-zero p e))
 
-  next-zero : w .session .window .next ≡ 0
-  next-zero = ap (λ (v : Window). v .next) window-is
+  next-zero : σ .session .window .start ≡ 0
+  next-zero = ap (λ (v : Window). v .start) window-is
 
-  first-event : (x : Event) → List·Memᴰ x (w .events) → x ≡ took 0 b
+  first-event : (x : Event) → List·Memᴰ x (σ .events) → x ≡ took 0 b
   first-event x m = List·Memᴰ·eq-of-singleton (subst (List·Memᴰ x) (fs .events) m)
 
-  first-buffer : Buffer w
+  first-buffer : Buffer σ
   first-buffer =
       record {
         sound = fs .sound;
         size = fs .size;
         settled = λ p l. absurd (omega (arith, next-zero));
         before-next = λ p c m. absurd (gave≢took p 0 c b (first-event _ m));
-        held = λ p e. subst (λ (k : ℕ). StillHeld w k (slot (w .store) k)) (sym (held-zero p e)) still;
+        held = λ p e. subst (λ (k : ℕ). StillHeld σ k (slot (σ .store) k)) (sym (held-zero p e)) still;
       }
     where
-      still : StillHeld w 0 (slot (w .store) 0)
+      still : StillHeld σ 0 (slot (σ .store) 0)
       still = record {
         earlier = [];
         since = [];
@@ -160,7 +161,7 @@ module _ (w : State) (b : List ℕ) (h word : ℕ) (fs : First w b h word) where
         bytes = refl;
       }
 
-  first-quiet : Quiet 1 w
+  first-quiet : Quiet 1 σ
   first-quiet = record { free = held-only 1 (omega arith); near = λ q k l. omega (arith, held-zero q k) }
 
 first-link : (a b : State) (x : List ℕ) (h k word : ℕ) → First a x h word → First b x k word → h ≤ k → Link 1 a b
@@ -200,15 +201,15 @@ first-link a b x h k word fa fb l =
 -- ---- demand 3
 
 pub higher-threshold-loses-nothing : HigherThresholdLosesNothing
-higher-threshold-loses-nothing less more b w o =
-    let a = atStart less b w in
-    let c = atStart more b w in
-    let fa = first less b w (o .less-accepted) in
-    let fc = first more b w (o .more-accepted) in
+higher-threshold-loses-nothing less more b word o =
+    let a = atStart less b word in
+    let c = atStart more b word in
+    let fa = first less b word (o .less-accepted) in
+    let fc = first more b word (o .more-accepted) in
     let p = played (less .calls) false a (o .less-list) in
     let q = played (more .calls) false c (o .more-list) in
     let k =
     link-played (offers (more .calls)) false 1 a c (run a (less .calls)) (run c (more .calls))
-    (first-link a c b (less .threshold) (more .threshold) w fa fc (o .thresholds)) (first-quiet a b (less .threshold) w fa)
+    (first-link a c b (less .threshold) (more .threshold) word fa fc (o .thresholds)) (first-quiet a b (less .threshold) word fa)
     (subst (λ (xs : List (List ℕ)). Played false a xs (run a (less .calls))) (o .same-offers) p) q in
     nothing-lost (k .0) _ _ (k .1)

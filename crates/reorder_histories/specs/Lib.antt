@@ -1,2 +1,4 @@
+pub mod History
 pub mod Histories
 pub mod Drained
+pub mod Made

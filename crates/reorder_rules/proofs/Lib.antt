@@ -4,3 +4,4 @@ pub mod Taken
 pub mod Free
 pub mod Ready
 pub mod Turns
+pub mod Keeps

@@ -1,23 +1,13 @@
--- What the opening promises, put together: there are no events before it.
-use mathlib.Core.List.{[]}
-use denote.Ref.{now}
-use Rattle.reorder_histories.specs.Histories.{offerTells}
-use Rattle.reorder_steps.proofs.Steps.{stands}
+-- What the opening promises is a start.
+use Rattle.reorder_histories.proofs.Made.{open-start}
 use borrow.Author.Needs.{needs}
 use Rattle.reorder_steps.proofs.open_start.Statement.{statement}
 use Rattle.reorder_steps.proofs.open_start.Tie as tie
 
-open-requires : tie.Need-open-requires
-open-requires c κs = search needs
-
-same-length : tie.Need-same-length
-same-length c = search needs
-
 returns : tie.Need-returns
 returns c =
-    let a = c .before .before .before .before .before .before .args in
     let e = c .before .before .«open» .ensures in
-    (e .0, (e .1 .0, (e .1 .1, stands (e .1 .0) (e .1 .1) (λ i. offerTells (e .0 i) (now (a .packet))) [])))
+    (e, open-start _ _ _ e)
 
 pub open-start-spec : {M : Type 1} → statement M
-open-start-spec = tie.close (tie.spec open-requires same-length returns)
+open-start-spec = tie.close (tie.spec (λ c κs. search needs) (λ c. search needs) returns)
