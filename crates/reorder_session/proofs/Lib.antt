@@ -1,2 +1,3 @@
 pub mod Said
 pub mod Whole
+pub mod Lent

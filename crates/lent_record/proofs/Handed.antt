@@ -23,8 +23,8 @@ use denote.Exit.{yes}
 use denote.Signature.{typesAt}
 use denote.Triple.End.{all, outs, lastsOf}
 use denote.Triple.Walked.{Stays, stay-none, fitsOf, hasOf, AllGo, goes-none}
-use Rattle.reorder_lent.proofs.Locals.{Spots, env, tys, rooms, cells, Located, found, Holds, first, others, reads-of}
-use Rattle.reorder_lent.proofs.Params.{Param, writes, reads, number, lives, slots, locals, temps, lend, operands, Out, Args, Last, entry, exit, values, passed, Meant, lent}
+use Rattle.lent_record.proofs.Locals.{Spots, env, tys, rooms, cells, Located, found, Holds, first, others, reads-of}
+use Rattle.lent_record.proofs.Params.{Param, writes, reads, number, lives, slots, locals, temps, lend, operands, Out, Args, Last, entry, exit, values, passed, Meant, lent}
 
 -- ---- the code
 
