@@ -4,7 +4,7 @@ use mathlib.Core.Path.{refl}
 use mathlib.Core.List.{List, [], _∷_}
 use mir.Syntax.{w8, w32}
 use Rattle.reorder_session.proofs.Lent.{session}
-use Rattle.lent_record.proofs.Params.{Param, writes, reads, number}
+use Rattle.lent_record.proofs.Params.{Param, writes, reads, writes-array, number}
 use Rattle.lent_record.proofs.Result.{Result, result}
 use Rattle.lent_record.proofs.Promises.{Promises}
 use Rattle.reorder_lent.proofs.Calls.{open-takes, offer-takes, serve-takes, pass-takes}
@@ -28,9 +28,9 @@ counted =
     result session (Counted-type.struct .name) Count-type.the-field Count-laws.the-field-laws Count-laws.the-field-plain Count-laws.mir refl
     Counted (λ x. x .answer) (λ x. x .session) (λ y s. record { answer = y; session = s }) (λ y s. refl) (λ y s. refl) (Counted-type.the-type .to-one)
 
--- a drain takes the numbers to describe its answers in too
+-- a drain takes the 64 numbers to describe its answers in too
 abbrev pub described-takes : List Param
-described-takes = writes w8 ∷ reads w8 ∷ number w32 ∷ writes w32 ∷ []
+described-takes = writes w8 ∷ reads w8 ∷ number w32 ∷ writes-array w32 64 ∷ []
 
 abbrev pub open-promises : Promises answered open-takes
 open-promises =
