@@ -50,7 +50,7 @@ trait Side {
         session: &mut Self::Session,
         out: &mut [u8],
         store: &[u8],
-        descriptions: &mut [u32],
+        descriptions: &mut [u32; 64],
     ) -> Self::Count;
 
     fn waits(answer: &Self::Answer) -> bool;
@@ -110,7 +110,7 @@ impl Side for Verified {
         session: &mut mola::Session,
         out: &mut [u8],
         store: &[u8],
-        descriptions: &mut [u32],
+        descriptions: &mut [u32; 64],
     ) -> mola::Count {
         mola::drain(session, out, store, BUDGET, descriptions)
     }
@@ -184,7 +184,7 @@ mod called {
         out: &mut [u8],
         store: &[u8],
         budget: u32,
-        descriptions: &mut [u32],
+        descriptions: &mut [u32; 64],
     ) -> Result<u32, Refusal> {
         reference::drain(session, out, store, budget, descriptions)
     }
@@ -244,7 +244,7 @@ macro_rules! reference_side {
                 session: &mut Self::Session,
                 out: &mut [u8],
                 store: &[u8],
-                descriptions: &mut [u32],
+                descriptions: &mut [u32; 64],
             ) -> Self::Count {
                 $drain(session, out, store, BUDGET, descriptions)
             }
@@ -387,7 +387,7 @@ fn drains<S: Side>(
             &mut session,
             &mut buffers.out[..],
             &buffers.store[..],
-            &mut buffers.descriptions[..],
+            &mut buffers.descriptions,
         ));
         black_box((&session, &buffers.out, &buffers.descriptions));
     }
@@ -424,7 +424,7 @@ fn arrivals_drained<S: Side>(packets: &Packets, buffers: &mut Buffers, times: us
                 &mut session,
                 &mut buffers.out[..],
                 &buffers.store[..],
-                &mut buffers.descriptions[..],
+                &mut buffers.descriptions,
             ));
             black_box((&buffers.out, &buffers.descriptions));
         }
@@ -465,7 +465,7 @@ fn tally<S: Side>(packets: &Packets, buffers: &mut Buffers) -> usize {
             &mut session,
             &mut buffers.out[..],
             &buffers.store[..],
-            &mut buffers.descriptions[..],
+            &mut buffers.descriptions,
         )) as usize;
         drained += count;
         for (i, description) in buffers.descriptions.chunks(2).take(count).enumerate() {

@@ -213,12 +213,10 @@ pub unsafe extern "C" fn mola_drain(
     store: *const u8,
     store_len: usize,
     budget: u32,
-    descriptions: *mut u32,
-    descriptions_len: usize,
+    descriptions: &mut [u32; 64],
 ) -> Count {
     let out = from_raw_parts_mut(out, out_len);
     let store = from_raw_parts(store, store_len);
-    let descriptions = from_raw_parts_mut(descriptions, descriptions_len);
     let drained = over(session, |session| {
         reference::drain(session, out, store, budget, descriptions)
     });

@@ -33,7 +33,6 @@ static const uint8_t temperatures[16], readings[14], bins[48];
 static uint8_t carried[MOLA_CARRIED_SIZE], packet[MOLA_PACKET_SIZE], record[MOLA_RECORD_SIZE];
 static uint8_t store[MOLA_STORE_SIZE], out[MOLA_STORE_SIZE];
 static uint32_t descriptions[64];
-static size_t described;
 static struct mola_fields fields = {.count = 16380, .coarse_time = 1000000};
 static struct mola_session session;
 
@@ -60,7 +59,7 @@ static void open_session(void)
 
 static void drain(void)
 {
-    answered = mola_drain(&session, out, sizeof out, store, sizeof store, 32, descriptions, described).refusal;
+    answered = mola_drain(&session, out, sizeof out, store, sizeof store, 32, descriptions).refusal;
 }
 
 /* ---- the rows */
@@ -98,7 +97,6 @@ static size_t deepest(void (*call)(void), uint32_t ahead)
 
 int main(void)
 {
-    size_t room, little;
     record[491] = 1;
     row("mola_write_packet", deeper(write_packet, (uint8_t *)&fields.error_status));
     row("mola_packet_sum", depth(sum));
@@ -109,11 +107,7 @@ int main(void)
     session.window.marks = 0;
     row("mola_offer", deeper(offer, &packet[700]));
     row("mola_serve", deepest(serve, 4));
-    described = 3;
-    little = deepest(drain, 4);
-    described = 64;
-    room = deepest(drain, 4);
-    row("mola_drain", little < room ? room : little);
+    row("mola_drain", deepest(drain, 4));
     row("mola_pass", deepest(pass, 4));
     return 0;
 }

@@ -5,9 +5,9 @@
  * that sessions are compared field by field.) What each sentence below says of a function's answer, and of what the function leaves, is proved
  * of it, in Rattle, before the archive is built; that the declarations here fit the archive is not proved but tested.
  *
- * A pointer with a length is lent: that many bytes, or of descriptions that many numbers, to read, or to write where the pointer is not const, which
- * no other argument of the call shares. A length of 0 takes any pointer, a null pointer too. A pointer without a length (session, temperatures,
- * readings, bins) points to one whole object of its type, and is never null.
+ * A pointer with a length is lent: that many bytes to read, or to write where the pointer is not const. A length of 0 takes any pointer, a null
+ * pointer too. A pointer without a length (session, temperatures, readings, bins, descriptions) points to one whole object of its type, and is never
+ * null. No other argument of a call shares what one is lent to write.
  *
  * Refusal numbers:
  *    1 packet not 1,080 bytes                       16 (a shot not 1 to 20: no function here)
@@ -140,10 +140,10 @@ struct mola_answer mola_offer(struct mola_session *session, uint8_t *store, size
 struct mola_answer mola_serve(struct mola_session *session, uint8_t *out, size_t out_len, const uint8_t *store, size_t store_len);
 
 /* Serves until a serve waits or the budget is spent. Answer i, from 0, is described by its kind at descriptions[2 i] and its position at
- * descriptions[2 i + 1], and where it is a packet its bytes stand at 1,080 i of out. Descriptions past the count, up to 32, are zeros. The first 64
- * numbers of descriptions are written, or as many as it has. Gives 30, 27, 29, 31. */
+ * descriptions[2 i + 1], and where it is a packet its bytes stand at 1,080 i of out. Descriptions past the count, up to 32, are zeros.
+ * Gives 30, 27, 29, 31. */
 struct mola_count mola_drain(struct mola_session *session, uint8_t *out, size_t out_len, const uint8_t *store, size_t store_len,
-    uint32_t budget, uint32_t *descriptions, size_t descriptions_len);
+    uint32_t budget, uint32_t descriptions[64]);
 
 /* Passes the next position over, by hand, and answers MOLA_MISSING with it. Gives 30, 28, 26. */
 struct mola_answer mola_pass(struct mola_session *session);

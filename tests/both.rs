@@ -259,10 +259,12 @@ impl<T: Copy + PartialEq + Debug> Twin<T> {
 pub struct Lengths {
     pub store: usize,
     pub room: usize,
-    pub descriptions: usize,
 }
 
 pub const LONGEST: usize = 2 * STORE;
+
+/// The numbers that describe a drain's answers.
+const DESCRIPTIONS: usize = 64;
 
 /// One reorder buffer on both sides. After each call the two sessions are equal, so one is kept.
 pub struct Pair {
@@ -276,12 +278,14 @@ impl Pair {
     /// Buffers of any contents.
     pub fn new(random: &Random) -> Pair {
         let guard = random.within(32, 64) as usize;
-        let numbers = (0..100 + 2 * guard).map(|_| random.u32()).collect();
+        let numbers = (0..DESCRIPTIONS + 2 * guard)
+            .map(|_| random.u32())
+            .collect();
         Pair {
             session: mola::Session::default(),
             store: Twin::new(random.bytes(LONGEST + 2 * guard), guard, STORE),
             out: Twin::new(random.bytes(LONGEST + 2 * guard), guard, STORE),
-            descriptions: Twin::new(numbers, guard, 100),
+            descriptions: Twin::new(numbers, guard, DESCRIPTIONS),
         }
     }
 
@@ -360,7 +364,9 @@ impl Pair {
         let (mut session, mut ours) = self.sessions();
         let (store, our_store) = self.store.lend(lengths.store);
         let (out, our_out) = self.out.lend(lengths.room);
-        let (described, our_described) = self.descriptions.lend(lengths.descriptions);
+        let (described, our_described) = self.descriptions.lend(DESCRIPTIONS);
+        let described = described.try_into().expect("64 numbers");
+        let our_described = our_described.try_into().expect("64 numbers");
         let count = mola::drain(&mut session, out, store, budget, described);
         let expected = reference::drain(&mut ours, our_out, our_store, budget, our_described);
         let call = format_args!("drain(budget {budget})");
@@ -407,21 +413,16 @@ impl Pair {
         answers: (A, A),
         sessions: (mola::Session, reference::Session),
     ) {
-        let Lengths {
-            store,
-            room,
-            descriptions,
-        } = lengths;
+        let Lengths { store, room } = lengths;
         let before = self.session;
-        let call = format_args!(
-            "{call}\nstore of {store}, out of {room}, descriptions of {descriptions}, session before {before:?}"
-        );
+        let call =
+            format_args!("{call}\nstore of {store}, out of {room}, session before {before:?}");
         harness.same(call, answers.0, answers.1);
         harness.same(call, own_session(&sessions.0), sessions.1);
         self.store.compare(harness, call, "store", store);
         self.out.compare(harness, call, "out", room);
         self.descriptions
-            .compare(harness, call, "descriptions", descriptions);
+            .compare(harness, call, "descriptions", DESCRIPTIONS);
         self.session = sessions.0;
     }
 }

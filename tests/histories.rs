@@ -8,7 +8,6 @@ use crate::reference::{END, PACKET, STORE};
 const USUAL: Lengths = Lengths {
     store: STORE,
     room: STORE,
-    descriptions: 64,
 };
 
 struct History {
@@ -204,7 +203,6 @@ impl History {
         let lengths = Lengths {
             store: self.store_length(random),
             room,
-            ..USUAL
         };
         self.pair.serve(harness, lengths);
     }
@@ -226,11 +224,9 @@ impl History {
             ]),
             false => STORE,
         };
-        let descriptions = random.pick(&[0, 1, 2, 3, 63, 64, 64, 64, 65, 100, random.below(101)]);
         let lengths = Lengths {
             store: self.store_length(random),
             room,
-            descriptions,
         };
         self.pair.drain(harness, lengths, budget);
     }

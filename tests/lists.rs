@@ -154,10 +154,13 @@ impl Consumer {
         let next = session.window.next;
         let (function, refusal) = match random.below(4) {
             0 if is_held(session, next) => (PASS, mola::pass(session).refusal),
-            1 => (DRAIN, mola::drain(session, out, store, 33, &mut []).refusal),
+            1 => (
+                DRAIN,
+                mola::drain(session, out, store, 33, &mut [0; 64]).refusal,
+            ),
             2 => (
                 DRAIN,
-                mola::drain(session, &mut out[..PACKET], store, 32, &mut []).refusal,
+                mola::drain(session, &mut out[..PACKET], store, 32, &mut [0; 64]).refusal,
             ),
             _ => (
                 SERVE,

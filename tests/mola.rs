@@ -123,8 +123,7 @@ extern "C" {
         store: *const u8,
         store_len: usize,
         budget: u32,
-        descriptions: *mut u32,
-        descriptions_len: usize,
+        descriptions: *mut [u32; 64],
     ) -> Count;
     fn mola_pass(session: *mut Session) -> Answer;
 }
@@ -221,7 +220,7 @@ pub fn drain(
     out: &mut [u8],
     store: &[u8],
     budget: u32,
-    descriptions: &mut [u32],
+    descriptions: &mut [u32; 64],
 ) -> Count {
     unsafe {
         mola_drain(
@@ -231,8 +230,7 @@ pub fn drain(
             store.as_ptr(),
             store.len(),
             budget,
-            descriptions.as_mut_ptr(),
-            descriptions.len(),
+            descriptions,
         )
     }
 }

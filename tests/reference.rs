@@ -433,14 +433,13 @@ pub fn serve(session: &mut Session, out: &mut [u8], store: &[u8]) -> Result<Answ
 /// is described and, where it is a packet, its bytes stand at 1,080 i of the output; other bytes there stay. A closing Waiting is neither
 /// counted nor described, and descriptions past the count are all zeros." "Drain: 30, 27, 29, 31."
 ///
-/// A description is a kind (1 packet, 2 missing) and a position. The first 64 numbers of `descriptions` are written, or as many as it
-/// has.
+/// A description is a kind (1 packet, 2 missing) and a position.
 pub fn drain(
     session: &mut Session,
     out: &mut [u8],
     store: &[u8],
     budget: u32,
-    descriptions: &mut [u32],
+    descriptions: &mut [u32; 64],
 ) -> Result<u32, Refusal> {
     if session.is_broken() {
         return Err(30);
@@ -450,8 +449,6 @@ pub fn drain(
     if budget > 32 {
         return Err(31);
     }
-    let described = descriptions.len().min(64);
-    let descriptions = &mut descriptions[..described];
     descriptions.fill(0);
     let before = session.window.next;
     for i in 0..budget {
@@ -463,13 +460,8 @@ pub fn drain(
             }
             Answer::Missing(position) => (2, position),
         };
-        for (number, value) in descriptions
-            .iter_mut()
-            .skip(2 * i as usize)
-            .zip([kind, position])
-        {
-            *number = value;
-        }
+        descriptions[2 * i as usize] = kind;
+        descriptions[2 * i as usize + 1] = position;
     }
     Ok(session.window.next - before)
 }
@@ -702,7 +694,7 @@ mod tests {
 
     #[test]
     fn drains() {
-        let (mut store, mut out, mut described) = (vec![0; STORE], vec![7; STORE], vec![9; 70]);
+        let (mut store, mut out, mut described) = (vec![0; STORE], vec![7; STORE], [9; 64]);
         let mut session = opened(1, &mut store);
         let two = packet(16_382, 1_000_028, 53);
         assert_eq!(offer(&mut session, &mut store, &two), Ok(Answer::Packet(2)));
@@ -715,10 +707,7 @@ mod tests {
             Ok(3)
         );
         assert_eq!(described[..6], [1, 0, 2, 1, 1, 2]);
-        assert_eq!(
-            (&described[6..64], &described[64..]),
-            (&[0; 58][..], &[9; 6][..])
-        );
+        assert_eq!(described[6..], [0; 58]);
         assert_eq!(
             (
                 out[PACKET..2 * PACKET].iter().all(|byte| *byte == 7),

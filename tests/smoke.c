@@ -113,14 +113,14 @@ static void history(void)
     EXPECT(is(offer_at(5), 0, MOLA_PACKET, 5));
 
     memset(descriptions, 255, sizeof descriptions);
-    struct mola_count count = mola_drain(&session, out, sizeof out, store, sizeof store, 33, descriptions, 64);
+    struct mola_count count = mola_drain(&session, out, sizeof out, store, sizeof store, 33, descriptions);
     EXPECT(count.refusal == 31 && count.count == 0 && descriptions[0] == UINT32_MAX);
-    count = mola_drain(&session, out, sizeof out, store, sizeof store, 32, descriptions, 64);
+    count = mola_drain(&session, out, sizeof out, store, sizeof store, 32, descriptions);
     EXPECT(count.refusal == 0 && count.count == 2);
     EXPECT(descriptions[0] == MOLA_MISSING && descriptions[1] == 2 && descriptions[2] == MOLA_PACKET && descriptions[3] == 3);
     EXPECT(descriptions[4] == 0 && descriptions[63] == 0 && holds_packet(out + MOLA_PACKET_SIZE, 3));
     EXPECT(is(mola_pass(&session), 0, MOLA_MISSING, 4));
-    count = mola_drain(&session, out, sizeof out, store, sizeof store, 32, NULL, 0);
+    count = mola_drain(&session, out, sizeof out, store, sizeof store, 32, descriptions);
     EXPECT(count.refusal == 0 && count.count == 1 && holds_packet(out, 5));
     EXPECT(session.window.next == 6 && session.window.marks == 0);
 

@@ -1,11 +1,12 @@
--- The five calls, as the walk over a lent session takes them (`reorder_lent`, `Walk.antt`). A call by value in numbers already promises what the
+-- The five calls, as the walk over a lent session takes them (`lent_record`, `LentWalk.antt`). A call by value in numbers already promises what the
 -- function over the lent session does.
 use mathlib.Core.Path.{refl}
 use mathlib.Core.List.{List, [], _∷_}
 use mir.Syntax.{w8, w32}
-use Rattle.reorder_lent.proofs.Params.{Param, writes, reads, number}
-use Rattle.reorder_lent.proofs.Result.{Result, result}
-use Rattle.reorder_lent.proofs.Promises.{Promises}
+use Rattle.reorder_session.proofs.Lent.{session}
+use Rattle.lent_record.proofs.Params.{Param, writes, reads, writes-array, number}
+use Rattle.lent_record.proofs.Result.{Result, result}
+use Rattle.lent_record.proofs.Promises.{Promises}
 use Rattle.reorder_lent.proofs.Calls.{open-takes, offer-takes, serve-takes, pass-takes}
 use Rattle.reorder_numbers.specs.declared.Answered.{Answered}
 use Rattle.reorder_numbers.specs.declared.Counted.{Counted}
@@ -17,19 +18,19 @@ use Rattle.reorder_numbers.proofs.Counted as Counted-type
 use Rattle.reorder_numbers.proofs.Count as Count-type
 use Rattle.reorder_numbers.proofs.Count.Laws as Count-laws
 
-abbrev pub answered : Result
+abbrev pub answered : Result session
 answered =
-    result (Answered-type.struct .name) Answer-type.the-field Answer-laws.the-field-laws Answer-laws.the-field-plain Answer-laws.mir refl
+    result session (Answered-type.struct .name) Answer-type.the-field Answer-laws.the-field-laws Answer-laws.the-field-plain Answer-laws.mir refl
     Answered (λ x. x .answer) (λ x. x .session) (λ y s. record { answer = y; session = s }) (λ y s. refl) (λ y s. refl) (Answered-type.the-type .to-one)
 
-abbrev pub counted : Result
+abbrev pub counted : Result session
 counted =
-    result (Counted-type.struct .name) Count-type.the-field Count-laws.the-field-laws Count-laws.the-field-plain Count-laws.mir refl
+    result session (Counted-type.struct .name) Count-type.the-field Count-laws.the-field-laws Count-laws.the-field-plain Count-laws.mir refl
     Counted (λ x. x .answer) (λ x. x .session) (λ y s. record { answer = y; session = s }) (λ y s. refl) (λ y s. refl) (Counted-type.the-type .to-one)
 
--- a drain takes the numbers to describe its answers in too
+-- a drain takes the 64 numbers to describe its answers in too
 abbrev pub described-takes : List Param
-described-takes = writes w8 ∷ reads w8 ∷ number w32 ∷ writes w32 ∷ []
+described-takes = writes w8 ∷ reads w8 ∷ number w32 ∷ writes-array w32 64 ∷ []
 
 abbrev pub open-promises : Promises answered open-takes
 open-promises =

@@ -157,7 +157,7 @@ pub extern "C" fn mola_drain(
     out: &mut [u8],
     store: &[u8],
     budget: u32,
-    descriptions: &mut [u32],
+    descriptions: &mut [u32; 64],
 ) -> Count
     ensures { λ r. ⌜ Drains (now (session .entry)) (now (out .entry)) (now (store .entry)) budget (now (descriptions .entry))
         r (now (session .exit)) (now (out .exit)) (now (descriptions .exit)) ⌝ }

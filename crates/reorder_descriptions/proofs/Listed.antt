@@ -7,7 +7,7 @@ use native.Mathlib.Omega.{arith}
 use lib.ListN.{length, getD, take, length-append}
 use lib.Seq.{take-suc, take-all, length-take-le}
 use Rattle.octets.specs.Bytes.{put}
-use Rattle.octets.proofs.Store.{put-then, put-nothing, put-length}
+use Rattle.octets.proofs.Store.{put-then, put-nothing, put-length, put-whole}
 use Rattle.reorder_turn.specs.declared.Description.{Description}
 use Rattle.reorder_turn.specs.Turn.{none}
 use Rattle.reorder_descriptions.specs.Listed.{listed}
@@ -45,5 +45,9 @@ stored-more ds old l i h k s =
 pub stored-length : (ds : List Description) (old l : List ℕ) (i : ℕ) → Stored ds old l i → length l ≡ length old
 stored-length ds old l i s = ap length (s .1) ∙ put-length old 0 (listed (take i ds))
 
-pub stored-all : (ds : List Description) (old l : List ℕ) (i : ℕ) → 32 ≤ i → length ds ≡ 32 → Stored ds old l i → l ≡ put old 0 (listed ds)
-stored-all ds old l i h k s = s .1 ∙ ap (λ (z : List Description). put old 0 (listed z)) (take-all i ds (omega arith))
+-- all 32 are the 64 numbers
+pub stored-all : (ds : List Description) (old l : List ℕ) (i : ℕ) → 32 ≤ i → length ds ≡ 32 → length old ≡ 64 → Stored ds old l i → l ≡ listed ds
+stored-all ds old l i h k n s =
+    s .1
+    ∙ ap (λ (z : List Description). put old 0 (listed z)) (take-all i ds (omega arith))
+    ∙ put-whole old (listed ds) (omega (arith, listed-length ds))

@@ -25,29 +25,30 @@ use Rattle.reorder_pass.proofs.Passed as Passed-type
 use Rattle.reorder_pass.proofs.PassAnswer as PassAnswer-type
 use Rattle.reorder_pass.proofs.PassAnswer.Laws as PassAnswer-laws
 use Rattle.reorder_lent.specs.Lent.{Opens, Offers, Serves, Drains, Passes}
-use Rattle.reorder_lent.proofs.Params.{Param, writes, reads, number}
-use Rattle.reorder_lent.proofs.Result.{Result, result}
-use Rattle.reorder_lent.proofs.Promises.{Promises}
+use Rattle.reorder_session.proofs.Lent.{session}
+use Rattle.lent_record.proofs.Params.{Param, writes, reads, number}
+use Rattle.lent_record.proofs.Result.{Result, result}
+use Rattle.lent_record.proofs.Promises.{Promises}
 use Rattle.reorder_lent.proofs.Comes.{open-refusal, offer-refusal, serve-refusal, drain-refusal, pass-refusal, pass-bytes, comes}
 
-abbrev pub offered : Result
+abbrev pub offered : Result session
 offered =
-    result (Offered-type.struct .name) OfferAnswer-type.the-field OfferAnswer-laws.the-field-laws OfferAnswer-laws.the-field-plain OfferAnswer-laws.mir refl
+    result session (Offered-type.struct .name) OfferAnswer-type.the-field OfferAnswer-laws.the-field-laws OfferAnswer-laws.the-field-plain OfferAnswer-laws.mir refl
     Offered (λ x. x .answer) (λ x. x .session) (λ y s. record { answer = y; session = s }) (λ y s. refl) (λ y s. refl) (Offered-type.the-type .to-one)
 
-abbrev pub served : Result
+abbrev pub served : Result session
 served =
-    result (Served-type.struct .name) ServeAnswer-type.the-field ServeAnswer-laws.the-field-laws ServeAnswer-laws.the-field-plain ServeAnswer-laws.mir refl
+    result session (Served-type.struct .name) ServeAnswer-type.the-field ServeAnswer-laws.the-field-laws ServeAnswer-laws.the-field-plain ServeAnswer-laws.mir refl
     Served (λ x. x .answer) (λ x. x .session) (λ y s. record { answer = y; session = s }) (λ y s. refl) (λ y s. refl) (Served-type.the-type .to-one)
 
-abbrev pub drained : Result
+abbrev pub drained : Result session
 drained =
-    result (Drained-type.struct .name) Report-type.the-field Report-laws.the-field-laws Report-laws.the-field-plain Report-laws.mir refl
+    result session (Drained-type.struct .name) Report-type.the-field Report-laws.the-field-laws Report-laws.the-field-plain Report-laws.mir refl
     Drained (λ x. x .answer) (λ x. x .session) (λ y s. record { answer = y; session = s }) (λ y s. refl) (λ y s. refl) (Drained-type.the-type .to-one)
 
-abbrev pub passed : Result
+abbrev pub passed : Result session
 passed =
-    result (Passed-type.struct .name) PassAnswer-type.the-field PassAnswer-laws.the-field-laws PassAnswer-laws.the-field-plain PassAnswer-laws.mir refl
+    result session (Passed-type.struct .name) PassAnswer-type.the-field PassAnswer-laws.the-field-laws PassAnswer-laws.the-field-plain PassAnswer-laws.mir refl
     Passed (λ x. x .answer) (λ x. x .session) (λ y s. record { answer = y; session = s }) (λ y s. refl) (λ y s. refl) (Passed-type.the-type .to-one)
 
 -- a store to write and a packet to read, with numbers; an output to write and the store to read, with numbers; nothing

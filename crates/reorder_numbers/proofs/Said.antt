@@ -4,7 +4,6 @@ use mathlib.Core.Path.{_≡_, refl, sym, ap, _∙_}
 use mathlib.Core.List.{List}
 use native.Mathlib.Omega.{arith}
 use lib.ListN.{length}
-use Rattle.octets.specs.Bytes.{put}
 use Rattle.octets.specs.Refusal.{Said, refused, answered, say}
 use Rattle.reorder_session.specs.declared.Session.{Session}
 use Rattle.reorder_session.specs.Outcome.{Outcome}
@@ -54,7 +53,7 @@ pub table-stays : (y : Said (List Turn)) (d : List ℕ) (n : ℕ) → counted y 
 table-stays (refused m) d n e = refl
 table-stays (answered ts) d n e = let z : _≡_ {A = ℕ} 0 1 = cc in absurd (omega arith)
 
-pub table-filled : (y : Said (List Turn)) (d : List ℕ) (k : ℕ) → counted y ≡ answered k → put d 0 (listed (descriptions y)) ≡ tabled y d
+pub table-filled : (y : Said (List Turn)) (d : List ℕ) (k : ℕ) → counted y ≡ answered k → listed (descriptions y) ≡ tabled y d
 table-filled (refused n) d k e = let z : _≡_ {A = ℕ} 0 1 = cc in absurd (omega arith)
 table-filled (answered ts) d k e = refl
 

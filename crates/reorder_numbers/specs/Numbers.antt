@@ -2,7 +2,6 @@
 use Prim.Native.Nat.{ℕ, _+_}
 use mathlib.Core.Path.{_≡_}
 use mathlib.Core.List.{List, []}
-use Rattle.octets.specs.Bytes.{put}
 use Rattle.octets.specs.Refusal.{Said, refused, answered}
 use Rattle.reorder_session.specs.declared.Session.{Session}
 use Rattle.reorder_session.specs.Outcome.{Outcome}
@@ -34,10 +33,10 @@ abbrev pub drained : Said ℕ → Count
 drained (refused n) = record { refusal = n; count = 0 }
 drained (answered k) = record { refusal = 0; count = k }
 
--- the numbers in a lent buffer after a drain: as they were on a refusal; else the 32 descriptions from its start, as far as it goes
+-- the 64 lent numbers after a drain: as they were on a refusal; else the 32 descriptions
 abbrev pub tabled : Said (List Turn) → List ℕ → List ℕ
 tabled (refused n) old = old
-tabled (answered ts) old = put old 0 (listed (describedAll ts))
+tabled (answered ts) old = listed (describedAll ts)
 
 -- ---- the calls: each answers r, and leaves the session t and, in what it is lent to write, the bytes c
 

@@ -161,7 +161,7 @@ fn drain_turns(
     out: &mut [u8],
     store: &[u8],
     budget: u32,
-    descriptions: &mut [u32],
+    descriptions: &mut [u32; 64],
 ) -> Counted
     ensures { λ r. ⌜ Drains session (now (out .entry)) (now (store .entry)) budget (now (descriptions .entry))
         (r .answer) (r .session) (now (out .exit)) (now (descriptions .exit)) ⌝ }
@@ -192,7 +192,7 @@ pub fn drain(
     out: &mut [u8],
     store: &[u8],
     budget: u32,
-    descriptions: &mut [u32],
+    descriptions: &mut [u32; 64],
 ) -> Counted
     ensures { λ r. ⌜ Drains session (now (out .entry)) (now (store .entry)) budget (now (descriptions .entry))
         (r .answer) (r .session) (now (out .exit)) (now (descriptions .exit)) ⌝ }

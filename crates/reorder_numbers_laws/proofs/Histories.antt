@@ -1,9 +1,8 @@
 -- What a call in numbers promises, as a step.
-use Prim.Native.Nat.{ℕ, _*_, _≤_}
+use Prim.Native.Nat.{ℕ}
 use mathlib.Core.Path.{_≡_, refl, sym, ap, _∙_}
 use mathlib.Core.List.{List, _++_}
-use native.Mathlib.Omega.{arith}
-use lib.ListN.{length, replicate, length-replicate}
+use lib.ListN.{replicate}
 use Rattle.octets.specs.Refusal.{Said}
 use Rattle.reorder_session.specs.declared.Session.{Session}
 use Rattle.reorder.specs.Offer.{openOf, offerOf}
@@ -15,7 +14,6 @@ use Rattle.reorder_histories.specs.Histories.{Call, offer, serve, drain, pass, 
 use Rattle.reorder_steps.proofs.Made.{loses-nothing}
 use Rattle.reorder_steps.proofs.Steps.{is-state, told-after}
 use Rattle.reorder_lent.proofs.Comes.{open-refusal, offer-refusal, serve-refusal, pass-refusal, pass-bytes}
-use Rattle.reorder_numbers.specs.declared.Count.{Count}
 use Rattle.reorder_numbers.specs.Numbers.{held, served, passed, drained, tabled}
 use Rattle.reorder_numbers.proofs.Said.{says, drains}
 use Rattle.reorder_numbers_laws.specs.NumberedCalls.{positionSaid, turnSaid, turnsSaid, NumberedOpen, NumberedCall, NumberedHistoriesLoseNothing}
@@ -36,9 +34,8 @@ serve-said s out store = turn-said _ (serve-numbered s out store)
 pass-said : (s : Session) → positionSaid (passed (passOf s .said)) ≡ passOf s .said
 pass-said s = position-said missing (λ p. refl) _ (pass-numbered s)
 
-drain-said : (s : Session) (out store : List ℕ) (budget : ℕ) (d : List ℕ) → let x = drainOf s out store budget .said in
-    2 * drained (counted x) .count ≤ length d → turnsSaid (drained (counted x)) (tabled x d) ≡ x
-drain-said s out store budget d room = turns-said _ d (drain-numbered s out store budget) room
+drain-said : (s : Session) (out store : List ℕ) (budget : ℕ) (d : List ℕ) → let x = drainOf s out store budget .said in turnsSaid (drained (counted x)) (tabled x d) ≡ x
+drain-said s out store budget d = turns-said _ d (drain-numbered s out store budget)
 
 -- ---- a call is a step
 
@@ -58,8 +55,7 @@ is-step w u (serve out) c =
     is-state (c .promised .session) (c .same-store) (told-after w (c .told) (λ i. serveTells (e i) (c .promised .bytes i)))
 is-step w u (drain out budget) c =
     let p = c .promised in
-    let n = ap (λ (r : Count). r .count) (p .says .answer) in
-    let e = (λ i. turnsSaid (p .says .answer i) (p .table i)) ∙ drain-said (w .session) out (w .store) budget (c .before) (omega (arith, n, c .room)) in
+    let e = (λ i. turnsSaid (p .says .answer i) (p .table i)) ∙ drain-said (w .session) out (w .store) budget (c .before) in
     is-state (p .says .session) (c .same-store) (told-after w (c .told) (λ i. drainTells (e i) (p .says .bytes i)))
 is-step w u pass c =
     let e = ap positionSaid (c .promised .answer) ∙ pass-said (w .session) in
@@ -87,18 +83,15 @@ call-holds w (serve out) =
     }
 call-holds w (drain out budget) =
     let o = drainOf (w .session) out (w .store) budget in
-    let n : ℕ = 2 * drained (counted (o .said)) .count in
-    let zeros : List ℕ = replicate n 0 in
-    let room : n ≤ length zeros = omega (arith, length-replicate {A = ℕ} n 0) in
+    let zeros : List ℕ = replicate 64 0 in
     record {
       answer = drained (counted (o .said));
       output = o .bytes;
       before = zeros;
-      room = room;
       after = tabled (o .said) zeros;
       promised = drains (w .session) out (w .store) budget zeros (counted (o .said)) refl refl refl refl (drain-count (w .session) out (w .store) budget) refl;
       same-store = refl;
-      told = ap (λ (x : Said (List Turn)). w .events ++ drainTells x (o .bytes)) (sym (drain-said (w .session) out (w .store) budget zeros room));
+      told = ap (λ (x : Said (List Turn)). w .events ++ drainTells x (o .bytes)) (sym (drain-said (w .session) out (w .store) budget zeros));
     }
 call-holds w pass =
     record {

@@ -1,17 +1,13 @@
 -- The numbers of an answer say what was said, since no refusal is 0.
-use Prim.Native.Nat.{ℕ, zero, suc, _+_, _-_, _*_, _≤_}
-use mathlib.Core.Path.{_≡_, refl, sym, ap, _∙_}
+use Prim.Native.Nat.{ℕ, zero, suc, _-_}
+use mathlib.Core.Path.{_≡_, refl, ap, _∙_}
 use mathlib.Core.List.{List, [], _∷_, _++_, map}
-use native.Mathlib.Omega.{arith}
-use lib.ListN.{length, replicate, drop}
-use Rattle.octets.specs.Bytes.{put}
+use lib.ListN.{length, replicate}
 use Rattle.octets.specs.Refusal.{Said, refused, answered, say}
-use Rattle.octets.proofs.Store.{put-splice, put-then, put-behind}
-use Rattle.reorder_turn.specs.declared.Description.{Description}
 use Rattle.reorder_turn.specs.Turn.{Turn, packet, missing, waiting, none, described, describedAll}
 use Rattle.reorder_serve.specs.Serve.{counted}
 use Rattle.reorder_descriptions.specs.Listed.{listed}
-use Rattle.reorder_descriptions.proofs.Listed.{listed-append, listed-length}
+use Rattle.reorder_descriptions.proofs.Listed.{listed-append}
 use Rattle.reorder_numbers.specs.Numbers.{inNumbers, served, drained, tabled}
 use Rattle.reorder_numbers_laws.specs.NumberedCalls.{turnBy, positionSaid, turnSaid, turnsIn, turnsSaid}
 use Rattle.reorder_numbers_laws.proofs.Refusals.{Numbered}
@@ -42,30 +38,12 @@ turns-in : (ts : List Turn) (more : List ℕ) → turnsIn (length ts) (listed (m
 turns-in [] more = refl
 turns-in (t ∷ ts) more = λ i. turn-by t i ∷ turns-in ts more i
 
-length-described : (ts : List Turn) → length (map described ts) ≡ length ts
-length-described [] = refl
-length-described (t ∷ ts) = ap suc (length-described ts)
-
--- numbers stored from the start on, where there is room for the first of them
-put-first : (d a b : List ℕ) → length a ≤ length d → put d 0 (a ++ b) ≡ a ++ put (drop (0 + length a) d) 0 b
-put-first d a b room =
-    let n : 0 + length a ≡ length a = omega arith in
-    let k : length a ≡ length a + 0 = omega arith in
-    sym (put-then a d b 0 (length a) n)
-    ∙ ap (λ (l : List ℕ). put l (length a) b) (put-splice d a 0 (omega arith))
-    ∙ put-behind a (drop (0 + length a) d) b 0 (length a) k
-
-turns-put : (ts : List Turn) (d : List ℕ) → 2 * length ts ≤ length d → turnsIn (length ts) (put d 0 (listed (describedAll ts))) ≡ ts
+turns-listed : (ts : List Turn) → turnsIn (length ts) (listed (describedAll ts)) ≡ ts
 unfolding describedAll
-turns-put ts d room =
-    let ds : List Description = replicate (32 - length ts) none in
-    let l : length (listed (map described ts)) ≡ 2 * length ts = listed-length (map described ts) ∙ ap (λ (k : ℕ). 2 * k) (length-described ts) in
-    ap (λ (l : List ℕ). turnsIn (length ts) (put d 0 l)) (listed-append (map described ts) ds)
-    ∙ ap (turnsIn (length ts)) (put-first d (listed (map described ts)) (listed ds) (omega arith))
-    ∙ turns-in ts _
+turns-listed ts =
+    ap (turnsIn (length ts)) (listed-append (map described ts) (replicate (32 - length ts) none)) ∙ turns-in ts _
 
-pub turns-said : (x : Said (List Turn)) (d : List ℕ) → Numbered x → 2 * drained (counted x) .count ≤ length d
-    → turnsSaid (drained (counted x)) (tabled x d) ≡ x
+pub turns-said : (x : Said (List Turn)) (d : List ℕ) → Numbered x → turnsSaid (drained (counted x)) (tabled x d) ≡ x
 unfolding say
-turns-said (refused n) d h room = say-refused n _ (h n refl)
-turns-said (answered ts) d h room = ap answered (turns-put ts d room)
+turns-said (refused n) d h = say-refused n _ (h n refl)
+turns-said (answered ts) d h = ap answered (turns-listed ts)

@@ -3,7 +3,6 @@
 use Prim.Native.Nat.{ℕ}
 use mathlib.Core.Path.{_≡_}
 use mathlib.Core.List.{List}
-use Rattle.octets.specs.Bytes.{put}
 use Rattle.octets.specs.Refusal.{answered}
 use Rattle.reorder_session.specs.declared.Session.{Session}
 use Rattle.reorder_admission.specs.declared.OfferAnswer.{OfferAnswer}
@@ -34,7 +33,7 @@ pub record AreLentCalls : Type 0 where
   pub drains : (s : Session) (out store : List ℕ) (budget : ℕ) (d : List ℕ) (r : Count) (t : Session) (c e : List ℕ)
       → Drains s out store budget d r t c e
       → (a : Report) × (Over.Drains s out store budget a t c
-      × ((r ≡ drained (drainSaid (a .answer))) × ((n : ℕ) → drainSaid (a .answer) ≡ answered n → e ≡ put d 0 (listed (a .descriptions)))))
+      × ((r ≡ drained (drainSaid (a .answer))) × ((n : ℕ) → drainSaid (a .answer) ≡ answered n → e ≡ listed (a .descriptions))))
   pub passes : (s : Session) (r : Answer) (t : Session)
       → Passes s r t
       → (a : PassAnswer) × (Over.Passes s a t × (r ≡ passed (passSaid a)))

@@ -1,9 +1,8 @@
 -- The calls in numbers and the lists of demand 3: "Each call gets the session and store that the last one returned or left." What each call promises,
 -- of the numbers that it gave, makes a step of a list.
-use Prim.Native.Nat.{ℕ, zero, suc, _*_, _≤_}
+use Prim.Native.Nat.{ℕ, zero, suc}
 use mathlib.Core.Path.{_≡_}
 use mathlib.Core.List.{List, [], _∷_, _++_}
-use lib.ListN.{length}
 use Rattle.octets.specs.Refusal.{Said, say}
 use Rattle.reorder_session.specs.declared.Session.{Session}
 use Rattle.reorder.specs.Offer.{openOf, offerOf}
@@ -61,12 +60,11 @@ pub record NumberedServe (w : State) (out : List ℕ) (u : State) : Type 0 where
   pub same-store : u .store ≡ w .store
   pub told : u .events ≡ w .events ++ serveTells (turnSaid answer) output
 
--- a drain that is lent room for the answers that it counts, which are none where it is refused, and left the numbers `after` where `before` stood
+-- a drain that left the numbers `after` where `before` stood
 pub record NumberedDrain (w : State) (out : List ℕ) (budget : ℕ) (u : State) : Type 0 where
   pub answer : Count
   pub output : List ℕ
   pub before : List ℕ
-  pub room : 2 * answer .count ≤ length before
   pub after : List ℕ
   pub promised : Drains (w .session) out (w .store) budget before answer (u .session) output after
   pub same-store : u .store ≡ w .store

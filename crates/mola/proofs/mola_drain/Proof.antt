@@ -2,7 +2,7 @@
 use contract.Running.{givenOf}
 use Rattle.reorder_numbers.proofs.drain.Symbol as by-value
 use Rattle.reorder_numbers.proofs.drain.Met as by-value-met
-use Rattle.reorder_lent.proofs.Walk.{stated}
+use Rattle.lent_record.proofs.LentWalk.{stated}
 use Rattle.mola.proofs.Calls.{counted, described-takes, drain-promises}
 use Rattle.mola.proofs.mola_drain.Key as key
 use Rattle.mola.proofs.mola_drain.Statement.{statement}

@@ -2,7 +2,7 @@
 use contract.Running.{givenOf}
 use Rattle.reorder_numbers.proofs.offer.Symbol as by-value
 use Rattle.reorder_numbers.proofs.offer.Met as by-value-met
-use Rattle.reorder_lent.proofs.Walk.{stated}
+use Rattle.lent_record.proofs.LentWalk.{stated}
 use Rattle.reorder_lent.proofs.Calls.{offer-takes}
 use Rattle.mola.proofs.Calls.{answered, offer-promises}
 use Rattle.mola.proofs.mola_offer.Key as key

@@ -2,7 +2,7 @@
 use contract.Running.{givenOf}
 use Rattle.reorder_numbers.proofs.open.Symbol as by-value
 use Rattle.reorder_numbers.proofs.open.Met as by-value-met
-use Rattle.reorder_lent.proofs.Walk.{stated}
+use Rattle.lent_record.proofs.LentWalk.{stated}
 use Rattle.reorder_lent.proofs.Calls.{open-takes}
 use Rattle.mola.proofs.Calls.{answered, open-promises}
 use Rattle.mola.proofs.mola_open.Key as key

@@ -1,8 +1,8 @@
--- The walk of `Walk.antt` over `reorder_serve::drain`.
+-- The walk of `lent_record` (`LentWalk.antt`) over `reorder_serve::drain`.
 use contract.Running.{givenOf}
 use Rattle.reorder_serve.proofs.drain.Symbol as by-value
 use Rattle.reorder_serve.proofs.drain.Met as by-value-met
-use Rattle.reorder_lent.proofs.Walk.{stated}
+use Rattle.lent_record.proofs.LentWalk.{stated}
 use Rattle.reorder_lent.proofs.Calls.{drained, drain-takes, drain-promises}
 use Rattle.reorder_lent.proofs.drain.Key as key
 use Rattle.reorder_lent.proofs.drain.Statement.{statement}

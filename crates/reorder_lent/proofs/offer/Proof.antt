@@ -1,8 +1,8 @@
--- The walk of `Walk.antt` over `reorder::offer`.
+-- The walk of `lent_record` (`LentWalk.antt`) over `reorder::offer`.
 use contract.Running.{givenOf}
 use Rattle.reorder.proofs.offer.Symbol as by-value
 use Rattle.reorder.proofs.offer.Met as by-value-met
-use Rattle.reorder_lent.proofs.Walk.{stated}
+use Rattle.lent_record.proofs.LentWalk.{stated}
 use Rattle.reorder_lent.proofs.Calls.{offered, offer-takes, offer-promises}
 use Rattle.reorder_lent.proofs.offer.Key as key
 use Rattle.reorder_lent.proofs.offer.Statement.{statement}

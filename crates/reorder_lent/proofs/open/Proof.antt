@@ -1,8 +1,8 @@
--- The walk of `Walk.antt` over `reorder::open_or`.
+-- The walk of `lent_record` (`LentWalk.antt`) over `reorder::open_or`.
 use contract.Running.{givenOf}
 use Rattle.reorder.proofs.open_or.Symbol as by-value
 use Rattle.reorder.proofs.open_or.Met as by-value-met
-use Rattle.reorder_lent.proofs.Walk.{stated}
+use Rattle.lent_record.proofs.LentWalk.{stated}
 use Rattle.reorder_lent.proofs.Calls.{offered, open-takes, open-promises}
 use Rattle.reorder_lent.proofs.open.Key as key
 use Rattle.reorder_lent.proofs.open.Statement.{statement}

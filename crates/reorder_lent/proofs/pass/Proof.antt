@@ -1,8 +1,8 @@
--- The walk of `Walk.antt` over `reorder_pass::pass`.
+-- The walk of `lent_record` (`LentWalk.antt`) over `reorder_pass::pass`.
 use contract.Running.{givenOf}
 use Rattle.reorder_pass.proofs.pass.Symbol as by-value
 use Rattle.reorder_pass.proofs.pass.Met as by-value-met
-use Rattle.reorder_lent.proofs.Walk.{stated}
+use Rattle.lent_record.proofs.LentWalk.{stated}
 use Rattle.reorder_lent.proofs.Calls.{passed, pass-takes, pass-promises}
 use Rattle.reorder_lent.proofs.pass.Key as key
 use Rattle.reorder_lent.proofs.pass.Statement.{statement}

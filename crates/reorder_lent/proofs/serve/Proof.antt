@@ -1,8 +1,8 @@
--- The walk of `Walk.antt` over `reorder_serve::serve`.
+-- The walk of `lent_record` (`LentWalk.antt`) over `reorder_serve::serve`.
 use contract.Running.{givenOf}
 use Rattle.reorder_serve.proofs.serve.Symbol as by-value
 use Rattle.reorder_serve.proofs.serve.Met as by-value-met
-use Rattle.reorder_lent.proofs.Walk.{stated}
+use Rattle.lent_record.proofs.LentWalk.{stated}
 use Rattle.reorder_lent.proofs.Calls.{served, serve-takes, serve-promises}
 use Rattle.reorder_lent.proofs.serve.Key as key
 use Rattle.reorder_lent.proofs.serve.Statement.{statement}

@@ -1,9 +1,9 @@
--- The walk of `Local.antt` over `reorder_lent::drain`.
+-- The walk of `lent_record` (`LocalWalk.antt`) over `reorder_lent::drain`.
 use contract.Running.{givenOf}
 use Rattle.reorder_lent.proofs.Calls.{drained, drain-takes, drain-promises}
 use Rattle.reorder_lent.proofs.drain.Symbol as lent
 use Rattle.reorder_lent.proofs.drain.Met as lent-met
-use Rattle.reorder_local.proofs.Local.{stated}
+use Rattle.lent_record.proofs.LocalWalk.{stated}
 use Rattle.reorder_local.proofs.drain.Key as key
 use Rattle.reorder_local.proofs.drain.Statement.{statement}
 use Rattle.reorder_local.proofs.drain.Code as code

@@ -1,9 +1,9 @@
--- The walk of `Local.antt` over `reorder_lent::offer`.
+-- The walk of `lent_record` (`LocalWalk.antt`) over `reorder_lent::offer`.
 use contract.Running.{givenOf}
 use Rattle.reorder_lent.proofs.Calls.{offered, offer-takes, offer-promises}
 use Rattle.reorder_lent.proofs.offer.Symbol as lent
 use Rattle.reorder_lent.proofs.offer.Met as lent-met
-use Rattle.reorder_local.proofs.Local.{stated}
+use Rattle.lent_record.proofs.LocalWalk.{stated}
 use Rattle.reorder_local.proofs.offer.Key as key
 use Rattle.reorder_local.proofs.offer.Statement.{statement}
 use Rattle.reorder_local.proofs.offer.Code as code

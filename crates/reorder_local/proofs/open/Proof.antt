@@ -1,9 +1,9 @@
--- The walk of `Local.antt` over `reorder_lent::open`.
+-- The walk of `lent_record` (`LocalWalk.antt`) over `reorder_lent::open`.
 use contract.Running.{givenOf}
 use Rattle.reorder_lent.proofs.Calls.{offered, open-takes, open-promises}
 use Rattle.reorder_lent.proofs.open.Symbol as lent
 use Rattle.reorder_lent.proofs.open.Met as lent-met
-use Rattle.reorder_local.proofs.Local.{stated}
+use Rattle.lent_record.proofs.LocalWalk.{stated}
 use Rattle.reorder_local.proofs.open.Key as key
 use Rattle.reorder_local.proofs.open.Statement.{statement}
 use Rattle.reorder_local.proofs.open.Code as code

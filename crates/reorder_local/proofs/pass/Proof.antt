@@ -1,9 +1,9 @@
--- The walk of `Local.antt` over `reorder_lent::pass`.
+-- The walk of `lent_record` (`LocalWalk.antt`) over `reorder_lent::pass`.
 use contract.Running.{givenOf}
 use Rattle.reorder_lent.proofs.Calls.{passed, pass-takes, pass-promises}
 use Rattle.reorder_lent.proofs.pass.Symbol as lent
 use Rattle.reorder_lent.proofs.pass.Met as lent-met
-use Rattle.reorder_local.proofs.Local.{stated}
+use Rattle.lent_record.proofs.LocalWalk.{stated}
 use Rattle.reorder_local.proofs.pass.Key as key
 use Rattle.reorder_local.proofs.pass.Statement.{statement}
 use Rattle.reorder_local.proofs.pass.Code as code

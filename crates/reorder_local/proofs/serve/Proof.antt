@@ -1,9 +1,9 @@
--- The walk of `Local.antt` over `reorder_lent::serve`.
+-- The walk of `lent_record` (`LocalWalk.antt`) over `reorder_lent::serve`.
 use contract.Running.{givenOf}
 use Rattle.reorder_lent.proofs.Calls.{served, serve-takes, serve-promises}
 use Rattle.reorder_lent.proofs.serve.Symbol as lent
 use Rattle.reorder_lent.proofs.serve.Met as lent-met
-use Rattle.reorder_local.proofs.Local.{stated}
+use Rattle.lent_record.proofs.LocalWalk.{stated}
 use Rattle.reorder_local.proofs.serve.Key as key
 use Rattle.reorder_local.proofs.serve.Statement.{statement}
 use Rattle.reorder_local.proofs.serve.Code as code

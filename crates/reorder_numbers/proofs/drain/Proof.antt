@@ -33,14 +33,11 @@ waits-requires c κs = search needs
 put-descriptions-requires : tie.Need-put-descriptions-requires
 put-descriptions-requires c κs = search needs
 
-same-length : tie.Need-same-length
-same-length c = search needs
-
 returns : tie.Need-returns
 unfolding describedAll
 returns c =
-    let t = c .before .before .before .before in
-    let a = t .before .before .before .before .before .before .args in
+    let t = c .before .before in
+    let a = t .before .before .before .before .before .args in
     let none = eqb (t .before .before .drain-refusal .result) 0 in
     let waits = t .before .waits .result in
     let q = drain-waits (a .session) (now (a .out)) (now (a .store)) (a .budget)
@@ -52,20 +49,17 @@ returns c =
     (ap (λ (o : Outcome (List Turn)). o .session) (sym q))
     (ap (λ (o : Outcome (List Turn)). o .bytes) (sym q))
     z
-    (c .before .before .put-descriptions .ensures ∙ ap (λ (o : Outcome (List Turn)). tabled (o .said) (now (a .descriptions))) (sym q))
+    (c .put-descriptions .ensures ∙ ap (λ (o : Outcome (List Turn)). tabled (o .said) (now (a .descriptions))) (sym q))
 
 drain-turns-requires : tie.Need-drain-turns-requires
 drain-turns-requires c κs = search needs
 
-same-length-2 : tie.Need-same-length-2
-same-length-2 c = search needs
-
-same-length-3 : tie.Need-same-length-3
-same-length-3 c = search needs
+same-length : tie.Need-same-length
+same-length c = search needs
 
 returns-2 : tie.Need-returns-2
 returns-2 c = search needs
 
 pub drain-spec : {M : Type 1} → statement M
 drain-spec =
-    tie.close (tie.spec drain-refusal-requires waits-requires put-descriptions-requires same-length returns drain-turns-requires same-length-2 same-length-3 returns-2)
+    tie.close (tie.spec drain-refusal-requires waits-requires put-descriptions-requires returns drain-turns-requires same-length returns-2)

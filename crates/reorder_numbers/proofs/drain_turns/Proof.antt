@@ -3,9 +3,7 @@ use Prim.Native.Nat.{ℕ}
 use mathlib.Core.Path.{_≡_, sym, ap, _∙_}
 use mathlib.Core.List.{List}
 use denote.Ref.{now}
-use Rattle.octets.specs.Bytes.{put}
 use Rattle.reorder_session.specs.declared.Session.{Session}
-use Rattle.reorder_turn.specs.declared.Description.{Description}
 use Rattle.octets.specs.Refusal.{Said}
 use Rattle.reorder_turn.specs.Turn.{Turn}
 use Rattle.reorder_serve.specs.Serve.{drainSaid, drainOf, counted, descriptions}
@@ -18,7 +16,7 @@ use Rattle.reorder_numbers.proofs.drain_turns.Statement.{statement}
 use Rattle.reorder_numbers.proofs.drain_turns.Tie as tie
 
 abbrev start : tie.After-drained-numbers → tie.Start
-start c = c .before .before .before .before .before .before .before .before .before .before .before
+start c = c .before .before .before .before .before .before .before .before .before .before
 
 abbrev by-value : tie.After-drained-numbers → tie.After-drain
 by-value c = c .before .before .before .before .before .before
@@ -72,17 +70,14 @@ put-descriptions-requires c κs = search needs
 same-length-2 : tie.Need-same-length-2
 same-length-2 c = search needs
 
-same-length-3 : tie.Need-same-length-3
-same-length-3 c = search needs
-
 returns-2 : tie.Need-returns-2
 returns-2 c =
-    let d = c .before .before .before .before .before .before .before in
+    let d = c .before .before .before .before .before in
     let o = by-value d .drain .ensures in
     told d _
-    (c .before .before .put-descriptions .ensures
-    ∙ ap (λ (l : List Description). put (old d) 0 (listed l)) {y = descriptions (ts d)} (o .1 .0)
-    ∙ table-filled (ts d) (old d) _ (sym (said d) ∙ ap drainSaid (c .before .before .before .before .before .enum-told .given .1)))
+    (c .put-descriptions .ensures
+    ∙ ap listed {y = descriptions (ts d)} (o .1 .0)
+    ∙ table-filled (ts d) (old d) _ (sym (said d) ∙ ap drainSaid (c .before .before .before .enum-told .given .1)))
 
 pub drain-turns-spec : {M : Type 1} → statement M
 drain-turns-spec =
@@ -97,5 +92,4 @@ drain-turns-spec =
     returns
     put-descriptions-requires
     same-length-2
-    same-length-3
     returns-2)

@@ -15,16 +15,15 @@ use denote.Triple.End.{all}
 use denote.Triple.Spec.{tripleOf}
 use denote.Triple.Statement.{Contract}
 use denote.Triple.Clauses.{Ended, Clauses, closing}
-use Rattle.reorder_session.specs.declared.Session.{Session}
-use Rattle.reorder_session.proofs.Session as T
-use Rattle.reorder_lent.proofs.Params.{Param, lives, slots, In, Out, entry, exit}
-use Rattle.reorder_lent.proofs.Result.{Result}
+use Rattle.lent_record.proofs.Lendable.{Lendable, Data, row-of}
+use Rattle.lent_record.proofs.Params.{Param, lives, slots, In, Out, entry, exit}
+use Rattle.lent_record.proofs.Result.{Result}
 
 -- what the call by value says of its result and of what it writes, and what the function over the lent session says
-pub record Promises (X : Result) (ps : List Param) : Type 1 where
-  pub says : Session → In ps → X .row .Denot → Out ps → Type 0
-  pub tells : Session → In ps → X .ans .Denot → Session → Out ps → Type 0
-  pub so : (s : Session) (i : In ps) (x : X .row .Denot) (z : Out ps) → says s i x z → tells s i (X .answer x) (X .session x) z
+pub record Promises {S : Lendable} (X : Result S) (ps : List Param) : Type 1 where
+  pub says : Data S → In ps → X .row .Denot → Out ps → Type 0
+  pub tells : Data S → In ps → X .ans .Denot → Data S → Out ps → Type 0
+  pub so : (s : Data S) (i : In ps) (x : X .row .Denot) (z : Out ps) → says s i x z → tells s i (X .answer x) (X .session x) z
 
 module _ (ps : List Param) where
   -- the lifetimes of the other parameters: in a call over a lent session, whose first is the session's, and in one by value
@@ -34,11 +33,11 @@ module _ (ps : List Param) where
   abbrev pub all-of : Lfts (lives ps) → Lfts (lives ps)
   all-of κs = κs
 
-module _ (X : Result) (ps : List Param) where
+module _ {S : Lendable} (X : Result S) (ps : List Param) where
   abbrev pub value-ended : Ended
   value-ended =
       record {
-        signature = record { lifetimes = lives ps; outlives = []; params = plain (λ κs. T.the-row) ∷ slots (lives ps) 0 ps (all-of ps); result = plain (λ κs. X .row) };
+        signature = record { lifetimes = lives ps; outlives = []; params = plain (λ κs. row-of S) ∷ slots (lives ps) 0 ps (all-of ps); result = plain (λ κs. X .row) };
         kept = (yes, all yes (slots (lives ps) 0 ps (all-of ps)));
       }
 
@@ -48,7 +47,7 @@ module _ (X : Result) (ps : List Param) where
         signature = record {
           lifetimes = suc (lives ps);
           outlives = [];
-          params = RefMutOf (0 ∷ []) tt (plain (λ κs. T.the-row)) (λ κs. tt) ∷ slots (suc (lives ps)) 1 ps (theirs ps);
+          params = RefMutOf (0 ∷ []) tt (plain (λ κs. row-of S)) (λ κs. tt) ∷ slots (suc (lives ps)) 1 ps (theirs ps);
           result = plain (λ κs. X .ans);
         };
         kept = (yes, all yes (slots (suc (lives ps)) 1 ps (theirs ps)));

@@ -1,0 +1,86 @@
+-- Two numbers a turn; a store is a put of one number, and all together are the 64.
+use Prim.Native.Nat.{_-_}
+use mathlib.Core.Path.{_≡_, _∙_}
+use native.Mathlib.Omega.{arith}
+use lib.ListN.{length, length-set}
+use borrow.Author.Needs.{needs}
+use Rattle.octets.specs.Bytes.{put}
+use Rattle.reorder_descriptions.proofs.Listed.{Stored, stored-none, stored-more, stored-length, stored-all}
+use Rattle.reorder_descriptions.proofs.put_descriptions.Statement.{statement}
+use Rattle.reorder_descriptions.proofs.put_descriptions.Tie as tie
+
+abbrev Inv-loop : tie.InvT-loop
+Inv-loop descriptions numbers₀ i₀ numbers i = Stored descriptions numbers₀ numbers i
+
+abbrev μ-loop : tie.MeasureT-loop
+μ-loop descriptions numbers₀ i₀ numbers i = 32 - i
+
+room : (b : tie.At-loop Inv-loop μ-loop) → length (b .loop .numbers) ≡ 64
+room b = stored-length (b .before .before .args .t1) _ _ (b .loop .i) (b .loop .inv) ∙ b .before .numbers .given .0 .1
+
+loop-holds : tie.Need-loop-holds Inv-loop μ-loop
+loop-holds c = stored-none (c .before .args .t1) _
+
+mul-description : tie.Need-mul-description Inv-loop μ-loop
+mul-description c = search needs
+
+array-copy-out-description : tie.Need-array-copy-out-description Inv-loop μ-loop
+array-copy-out-description c = search needs
+
+mul-numbers : tie.Need-mul-numbers Inv-loop μ-loop
+mul-numbers c = search needs
+
+mul-numbers-2 : tie.Need-mul-numbers-2 Inv-loop μ-loop
+mul-numbers-2 c = search needs
+
+slice-write-numbers : tie.Need-slice-write-numbers Inv-loop μ-loop
+slice-write-numbers c = omega (arith, room (c .before .before))
+
+mul-numbers-3 : tie.Need-mul-numbers-3 Inv-loop μ-loop
+mul-numbers-3 c = search needs
+
+add-numbers : tie.Need-add-numbers Inv-loop μ-loop
+add-numbers c = search needs
+
+mul-numbers-4 : tie.Need-mul-numbers-4 Inv-loop μ-loop
+mul-numbers-4 c = search needs
+
+slice-write-numbers-2 : tie.Need-slice-write-numbers-2 Inv-loop μ-loop
+slice-write-numbers-2 c = simp length-set (omega (arith, room (c .before .before)))
+
+add-i : tie.Need-add-i Inv-loop μ-loop
+add-i c = search needs
+
+loop-less : tie.Need-loop-less Inv-loop μ-loop
+loop-less c = search needs
+
+loop-again : tie.Need-loop-again Inv-loop μ-loop
+unfolding put
+loop-again c =
+    let b = c .before .before in
+    stored-more (b .before .before .args .t1) _ (b .loop .numbers) (b .loop .i) (c .before .loop-test .taken) (omega arith) (b .loop .inv)
+
+returns : tie.Need-returns Inv-loop μ-loop
+returns c =
+    stored-all (c .before .before .before .args .t1) _ _ (c .before .loop .i) (c .loop-test .left) (omega arith) (c .before .before .numbers .given .0 .1) (c .before .loop .inv)
+
+pub put-descriptions-spec : {M : Type 1} → statement M
+put-descriptions-spec =
+    tie.close
+    (tie.spec
+    Inv-loop
+    μ-loop
+    loop-holds
+    mul-description
+    array-copy-out-description
+    mul-numbers
+    mul-numbers-2
+    slice-write-numbers
+    mul-numbers-3
+    add-numbers
+    mul-numbers-4
+    slice-write-numbers-2
+    add-i
+    loop-less
+    loop-again
+    returns)
