@@ -47,7 +47,7 @@ use Rattle.lent_record.proofs.Locals.{Spots, env, past, Located, after-
 use Rattle.lent_record.proofs.Params.{Param, lives, slots, locals, temps, lend, operands, In, Out, Args, Last, entry, exit, spells, tells, values, passed, Meant, lent}
 use Rattle.lent_record.proofs.Handed.{typed-passed, typed-lent, lends, hand, same-entry, back, exits, same-exit, operands-all, kept, hands, stays, goes, Fits, Has, comes-back}
 use Rattle.lent_record.proofs.Result.{Result}
-use Rattle.lent_record.proofs.Promises.{Promises, theirs, all-of, value-ended, lent-ended, value-clauses, lent-clauses, Value, Lent}
+use Rattle.lent_record.proofs.Promises.{Promise, theirs, all-of, value-ended, lent-ended, value-clauses, lent-clauses, Value, Lent}
 
 module _ {S : Lendable} (X : Result S) (step : Name) (ps : List Param) where
   -- ---- the code
@@ -109,7 +109,7 @@ module _ {S : Lendable} (X : Result S) (step : Name) (ps : List Param) where
   abbrev stayed : Stays (outer .signature .params) (outer .kept)
   stayed = (stay-ref (0 ∷ []) tt (plain (λ _. row-of S)), stays n 1 ps of)
 
-  module _ (P : Promises X ps) where
+  module _ (P : Promise X ps) where
     module _ {M : Type 1} (𝓤 : URA M) (H : Heap 𝓤) (A : Atoms 𝓤) (W : Given 𝓤 H A) (κ : Lft) (κs : Lfts m) (q : Share) (qs : Shares m)
         (b o : ℕ) (γ : GName) (h : Data S) (c : Args n (κ, κs) 1 ps of) where
       abbrev ks : Lfts n
@@ -139,16 +139,16 @@ module _ {S : Lendable} (X : Result S) (step : Name) (ps : List Param) where
       left-by ws = exit m κs 0 ps of′ (outs κs (slots m 0 ps of′) (all yes (slots m 0 ps of′)) c′ ws)
 
       abbrev Said : X .row .Denot → Lasts → Type 0
-      Said x ws = P .says h (entry m κs 0 ps of′ c′) x (left-by ws)
+      Said x ws = P h (entry m κs 0 ps of′ c′) (X .answer x) (X .session x) (left-by ws)
 
       -- so the function's own contract holds
       told : (x : X .row .Denot) (ws : Lasts) → Said x ws
-          → P .tells h (entry n ks 1 ps of c) (X .answer x) (X .session x) (exits n ks m κs 1 ps of c (home ws))
+          → P h (entry n ks 1 ps of c) (X .answer x) (X .session x) (exits n ks m κs 1 ps of c (home ws))
       told x ws e =
-          subst (λ (z : Out ps). P .tells h (entry n ks 1 ps of c) (X .answer x) (X .session x) z)
+          subst (λ (z : Out ps). P h (entry n ks 1 ps of c) (X .answer x) (X .session x) z)
           (same-exit n ks m κs 1 0 ps of of′ c ws)
-          (subst (λ (i : In ps). P .tells h i (X .answer x) (X .session x) (left-by ws))
-          (same-entry n ks m κs 1 0 ps of of′ c) (P .so h _ x _ e))
+          (subst (λ (i : In ps). P h i (X .answer x) (X .session x) (left-by ws))
+          (same-entry n ks m κs 1 0 ps of of′ c) e)
 
       asked : ent 𝓤 (onEntry 𝓤 H A (inner .signature) κs qs (h, c′) (mach S h ∷ [], values m κs 0 ps of′ c′)) (Value X ps P 𝓤 H A .pre to)
       asked =

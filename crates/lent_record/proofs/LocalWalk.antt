@@ -48,7 +48,7 @@ use Rattle.lent_record.proofs.Locals.{Spots, env, past, Located, after-
 use Rattle.lent_record.proofs.Params.{Param, lives, slots, locals, temps, lend, operands, In, Out, Args, Last, entry, exit, spells, tells, values, passed, Meant, lent}
 use Rattle.lent_record.proofs.Handed.{typed-passed, typed-lent, lends, hand, same-entry, back, exits, same-exit, operands-all, kept, hands, stays, goes, Fits, Has, comes-back}
 use Rattle.lent_record.proofs.Result.{Result}
-use Rattle.lent_record.proofs.Promises.{Promises, theirs, all-of, value-ended, lent-ended, lent-clauses, Lent}
+use Rattle.lent_record.proofs.Promises.{Promise, theirs, all-of, value-ended, lent-ended, lent-clauses, Lent}
 
 -- ---- a session in a local, as what lies behind a reference
 
@@ -138,14 +138,14 @@ module _ {S : Lendable} (X : Result S) (call-key : Name) (ps : List Param) where
   abbrev stayed : Stays (outer .signature .params) (outer .kept)
   stayed = (stay-none (λ _. row-of S) yes, stays n 0 ps of)
 
-  module _ (P : Promises X ps) where
+  module _ (P : Promise X ps) where
     -- the function says what the call over a lent session says
     abbrev pub clauses : {M : Type 1} (𝓤 : URA M) → Clauses 𝓤 outer
     clauses 𝓤 κs a =
         record {
           ghost = Unit {0};
           requires = λ g. emp 𝓤;
-          ensures = λ g x e. fact 𝓤 (P .tells (a .0) (entry n κs 0 ps of (a .1)) (X .answer x) (X .session x) (exit n κs 0 ps of (e .1)));
+          ensures = λ g x e. fact 𝓤 (P (a .0) (entry n κs 0 ps of (a .1)) (X .answer x) (X .session x) (exit n κs 0 ps of (e .1)));
         }
 
     module _ {M : Type 1} (𝓤 : URA M) (H : Heap 𝓤) (A : Atoms 𝓤) (W : Given 𝓤 H A) (κs : Lfts n) (qs : Shares n) (h : Data S) (c : Args n κs 0 ps of) where
@@ -170,15 +170,15 @@ module _ {S : Lendable} (X : Result S) (call-key : Name) (ps : List Param) where
         left-by ws = exit m ks 1 ps of′ (outs ks (slots m 1 ps of′) (all yes (slots m 1 ps of′)) c′ ws)
 
         abbrev Said : X .ans .Denot → Data S → Lasts → Type 0
-        Said y t ws = P .tells h (entry m ks 1 ps of′ c′) y t (left-by ws)
+        Said y t ws = P h (entry m ks 1 ps of′ c′) y t (left-by ws)
 
         told : (y : X .ans .Denot) (t : Data S) (ws : Lasts) → Said y t ws
-            → P .tells h (entry n κs 0 ps of c) (X .answer (X .make y t)) (X .session (X .make y t)) (exits n κs m ks 0 ps of c (home ws))
+            → P h (entry n κs 0 ps of c) (X .answer (X .make y t)) (X .session (X .make y t)) (exits n κs m ks 0 ps of c (home ws))
         told y t ws e =
-            subst (λ (z : Out ps). P .tells h (entry n κs 0 ps of c) (X .answer (X .make y t)) (X .session (X .make y t)) z) (same-exit n κs m ks 0 1 ps of of′ c ws)
-            (subst (λ (i : In ps). P .tells h i (X .answer (X .make y t)) (X .session (X .make y t)) (left-by ws)) (same-entry n κs m ks 0 1 ps of of′ c)
-            (subst (λ (u : Data S). P .tells h (entry m ks 1 ps of′ c′) (X .answer (X .make y t)) u (left-by ws)) (sym (X .made-session y t))
-            (subst (λ (z : X .ans .Denot). P .tells h (entry m ks 1 ps of′ c′) z t (left-by ws)) (sym (X .made-answer y t)) e)))
+            subst (λ (z : Out ps). P h (entry n κs 0 ps of c) (X .answer (X .make y t)) (X .session (X .make y t)) z) (same-exit n κs m ks 0 1 ps of of′ c ws)
+            (subst (λ (i : In ps). P h i (X .answer (X .make y t)) (X .session (X .make y t)) (left-by ws)) (same-entry n κs m ks 0 1 ps of of′ c)
+            (subst (λ (u : Data S). P h (entry m ks 1 ps of′ c′) (X .answer (X .make y t)) u (left-by ws)) (sym (X .made-session y t))
+            (subst (λ (z : X .ans .Denot). P h (entry m ks 1 ps of′ c′) z t (left-by ws)) (sym (X .made-answer y t)) e)))
 
         leaves : (y : X .ans .Denot) (t : Data S) (ws : Lasts) → Said y t ws → Fits n κs m ks 𝓤 H A W 0 ps of c (home ws)
             → Is (row-of S) h (mach S h ∷ []) → Is (X .row) (X .make y t) (vstruct (vcons (X .ans-val y) (vcons (mach S t) vnil)) ∷ [])

@@ -19,11 +19,10 @@ use Rattle.lent_record.proofs.Lendable.{Lendable, Data, row-of}
 use Rattle.lent_record.proofs.Params.{Param, lives, slots, In, Out, entry, exit}
 use Rattle.lent_record.proofs.Result.{Result}
 
--- what the call by value says of its result and of what it writes, and what the function over the lent session says
-pub record Promises {S : Lendable} (X : Result S) (ps : List Param) : Type 1 where
-  pub says : Data S → In ps → X .row .Denot → Out ps → Type 0
-  pub tells : Data S → In ps → X .ans .Denot → Data S → Out ps → Type 0
-  pub so : (s : Data S) (i : In ps) (x : X .row .Denot) (z : Out ps) → says s i x z → tells s i (X .answer x) (X .session x) z
+-- what is promised of the struct that came, of the other parameters, of the answer, of the struct then and of what is written: of what the call by
+-- value returns, and of what the function over the lent struct answers and leaves in it
+abbrev pub Promise : {S : Lendable} (X : Result S) → List Param → Type 1
+Promise {S} X ps = Data S → In ps → X .ans .Denot → Data S → Out ps → Type 0
 
 module _ (ps : List Param) where
   -- the lifetimes of the other parameters: in a call over a lent session, whose first is the session's, and in one by value
@@ -53,13 +52,13 @@ module _ {S : Lendable} (X : Result S) (ps : List Param) where
         kept = (yes, all yes (slots (suc (lives ps)) 1 ps (theirs ps)));
       }
 
-  module _ (P : Promises X ps) where
+  module _ (P : Promise X ps) where
     abbrev pub value-clauses : {M : Type 1} (𝓤 : URA M) → Clauses 𝓤 value-ended
     value-clauses 𝓤 κs a =
         record {
           ghost = Unit {0};
           requires = λ g. emp 𝓤;
-          ensures = λ g x e. fact 𝓤 (P .says (a .0) (entry (lives ps) κs 0 ps (all-of ps) (a .1)) x (exit (lives ps) κs 0 ps (all-of ps) (e .1)));
+          ensures = λ g x e. fact 𝓤 (P (a .0) (entry (lives ps) κs 0 ps (all-of ps) (a .1)) (X .answer x) (X .session x) (exit (lives ps) κs 0 ps (all-of ps) (e .1)));
         }
 
     abbrev pub lent-clauses : {M : Type 1} (𝓤 : URA M) → Clauses 𝓤 lent-ended
@@ -67,7 +66,7 @@ module _ {S : Lendable} (X : Result S) (ps : List Param) where
         record {
           ghost = Unit {0};
           requires = λ g. emp 𝓤;
-          ensures = λ g y e. fact 𝓤 (P .tells (now (a .0)) (entry (suc (lives ps)) κs 1 ps (theirs ps) (a .1)) y (now (e .0)) (exit (suc (lives ps)) κs 1 ps (theirs ps) (e .1)));
+          ensures = λ g y e. fact 𝓤 (P (now (a .0)) (entry (suc (lives ps)) κs 1 ps (theirs ps) (a .1)) y (now (e .0)) (exit (suc (lives ps)) κs 1 ps (theirs ps) (e .1)));
         }
 
     abbrev pub Value : {M : Type 1} (𝓤 : URA M) (H : Heap 𝓤) (A : Atoms 𝓤) → Contract 𝓤

@@ -1,35 +1,33 @@
--- The five calls, as the walk takes them: what each returns, what it takes beside the session, and what it promises by value and over a lent session.
-use mathlib.Core.Path.{_≡_, refl}
+-- The five calls, as the walks over a lent session take them: what each returns, what it takes beside the session, and what it promises.
+use mathlib.Core.Path.{refl}
 use mathlib.Core.List.{List, [], _∷_}
-use Prim.Native.Nat.{_+_}
-use mir.Syntax.{w8, w16, w32}
-use Rattle.reorder.specs.declared.Offered.{Offered}
-use Rattle.reorder_admission.specs.Admission.{said}
-use Rattle.reorder.specs.Offer.{openOf, offerOf}
-use Rattle.reorder.proofs.Offered as Offered-type
+use mir.Syntax.{w8, w32}
+use Rattle.lent_record.proofs.Params.{Param, writes, reads, number}
+use Rattle.lent_record.proofs.Result.{Result, result}
+use Rattle.lent_record.proofs.Promises.{Promise}
+use Rattle.reorder_session.proofs.Lent.{session}
+use Rattle.reorder_session.specs.Calls.{Offers, Serves, Drains, Passes}
+use Rattle.reorder_admission.specs.Answer.{offerSaid}
 use Rattle.reorder_admission.proofs.OfferAnswer as OfferAnswer-type
 use Rattle.reorder_admission.proofs.OfferAnswer.Laws as OfferAnswer-laws
-use Rattle.reorder_serve.specs.declared.Served.{Served}
-use Rattle.reorder_serve.specs.declared.Drained.{Drained}
-use Rattle.reorder_pass.specs.declared.Passed.{Passed}
-use Rattle.reorder_turn.specs.Turn.{serveSaid}
-use Rattle.reorder_serve.specs.Serve.{serveOf, drainSaid, drainOf, counted, descriptions, countSaid}
-use Rattle.reorder_pass.specs.Pass.{passSaid, passOf}
-use Rattle.reorder_serve.proofs.Served as Served-type
+use Rattle.reorder_offer.specs.declared.Offered.{Offered}
+use Rattle.reorder_offer.specs.Opening.{Opens}
+use Rattle.reorder_offer.proofs.Offered as Offered-type
+use Rattle.reorder_turn.specs.Answer.{serveSaid}
 use Rattle.reorder_turn.proofs.ServeAnswer as ServeAnswer-type
 use Rattle.reorder_turn.proofs.ServeAnswer.Laws as ServeAnswer-laws
+use Rattle.reorder_serve.specs.declared.Served.{Served}
+use Rattle.reorder_serve.specs.declared.Drained.{Drained}
+use Rattle.reorder_serve.specs.Report.{reportSaid, Reports}
+use Rattle.reorder_serve.proofs.Served as Served-type
 use Rattle.reorder_serve.proofs.Drained as Drained-type
 use Rattle.reorder_serve.proofs.Report as Report-type
 use Rattle.reorder_serve.proofs.Report.Laws as Report-laws
+use Rattle.reorder_pass.specs.declared.Passed.{Passed}
+use Rattle.reorder_pass.specs.Answer.{passSaid}
 use Rattle.reorder_pass.proofs.Passed as Passed-type
 use Rattle.reorder_pass.proofs.PassAnswer as PassAnswer-type
 use Rattle.reorder_pass.proofs.PassAnswer.Laws as PassAnswer-laws
-use Rattle.reorder_lent.specs.Lent.{Opens, Offers, Serves, Drains, Passes}
-use Rattle.reorder_session.proofs.Lent.{session}
-use Rattle.lent_record.proofs.Params.{Param, writes, reads, number}
-use Rattle.lent_record.proofs.Result.{Result, result}
-use Rattle.lent_record.proofs.Promises.{Promises}
-use Rattle.reorder_lent.proofs.Comes.{open-refusal, offer-refusal, serve-refusal, drain-refusal, pass-refusal, pass-bytes, comes}
 
 abbrev pub offered : Result session
 offered =
@@ -53,7 +51,7 @@ passed =
 
 -- a store to write and a packet to read, with numbers; an output to write and the store to read, with numbers; nothing
 abbrev pub open-takes : List Param
-open-takes = writes w8 ∷ reads w8 ∷ number w32 ∷ number w16 ∷ []
+open-takes = writes w8 ∷ reads w8 ∷ number w32 ∷ number w32 ∷ []
 
 abbrev pub offer-takes : List Param
 offer-takes = writes w8 ∷ reads w8 ∷ []
@@ -67,52 +65,17 @@ drain-takes = writes w8 ∷ reads w8 ∷ number w32 ∷ []
 abbrev pub pass-takes : List Param
 pass-takes = []
 
-abbrev pub open-promises : Promises offered open-takes
-open-promises =
-    record {
-      says = λ s i x z. let o = openOf s (i .0) (i .1 .0) (i .1 .1 .0) (i .1 .1 .1 .0) in (said (x .answer) ≡ o .said) × ((x .session ≡ o .session) × (z .0 ≡ o .bytes));
-      tells = λ s i y t z. Opens s (i .0) (i .1 .0) (i .1 .1 .0) (i .1 .1 .1 .0) y t (z .0);
-      so = λ s i x z e. comes (open-refusal s (i .0) (i .1 .0) (i .1 .1 .0) (i .1 .1 .1 .0)) (e .0) (e .1 .0) (e .1 .1);
-    }
+abbrev pub open-promise : Promise offered open-takes
+open-promise s i y t z = Opens s (i .0) (i .1 .0) (i .1 .1 .0) (i .1 .1 .1 .0) (offerSaid y) t (z .0)
 
-abbrev pub offer-promises : Promises offered offer-takes
-offer-promises =
-    record {
-      says = λ s i x z. let o = offerOf s (i .0) (i .1 .0) in (said (x .answer) ≡ o .said) × ((x .session ≡ o .session) × (z .0 ≡ o .bytes));
-      tells = λ s i y t z. Offers s (i .0) (i .1 .0) y t (z .0);
-      so = λ s i x z e. comes (offer-refusal s (i .0) (i .1 .0)) (e .0) (e .1 .0) (e .1 .1);
-    }
+abbrev pub offer-promise : Promise offered offer-takes
+offer-promise s i y t z = Offers s (i .0) (i .1 .0) (offerSaid y) t (z .0)
 
-abbrev pub serve-promises : Promises served serve-takes
-serve-promises =
-    record {
-      says = λ s i x z. let o = serveOf s (i .0) (i .1 .0) in (serveSaid (x .answer) ≡ o .said) × ((x .session ≡ o .session) × (z .0 ≡ o .bytes));
-      tells = λ s i y t z. Serves s (i .0) (i .1 .0) y t (z .0);
-      so = λ s i x z e. comes (serve-refusal s (i .0) (i .1 .0)) (e .0) (e .1 .0) (e .1 .1);
-    }
+abbrev pub serve-promise : Promise served serve-takes
+serve-promise s i y t z = Serves s (i .0) (i .1 .0) (serveSaid y) t (z .0)
 
-abbrev pub drain-promises : Promises drained drain-takes
-drain-promises =
-    record {
-      says = λ s i x z.
-          let o = drainOf s (i .0) (i .1 .0) (i .1 .1 .0) in
-          (drainSaid (x .answer .answer) ≡ counted (o .said))
-          × ((x .answer .descriptions ≡ descriptions (o .said))
-          × ((x .session ≡ o .session)
-          × ((z .0 ≡ o .bytes) × (x .session .window .next ≡ s .window .next + countSaid (drainSaid (x .answer .answer))))));
-      tells = λ s i y t z. Drains s (i .0) (i .1 .0) (i .1 .1 .0) y t (z .0);
-      so = λ s i x z e.
-          record {
-            comes = comes (drain-refusal s (i .0) (i .1 .0) (i .1 .1 .0)) (e .0) (e .1 .1 .0) (e .1 .1 .1 .0);
-            described = e .1 .0;
-            count = e .1 .1 .1 .1;
-          };
-    }
+abbrev pub drain-promise : Promise drained drain-takes
+drain-promise s i y t z = Drains s (i .0) (i .1 .0) (i .1 .1 .0) (reportSaid y) t (z .0) × Reports y (reportSaid y)
 
-abbrev pub pass-promises : Promises passed pass-takes
-pass-promises =
-    record {
-      says = λ s i x z. (passSaid (x .answer) ≡ passOf s .said) × (x .session ≡ passOf s .session);
-      tells = λ s i y t z. Passes s y t;
-      so = λ s i x z e. comes (pass-refusal s) (e .0) (e .1) (pass-bytes s);
-    }
+abbrev pub pass-promise : Promise passed pass-takes
+pass-promise s i y t z = Passes s (passSaid y) t

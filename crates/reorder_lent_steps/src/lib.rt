@@ -1,24 +1,19 @@
-// Demand 3 for histories of calls over a lent session.
-use position::Anchor;
-use reorder::Offered;
+// The calls of the reorder buffer over a lent session as steps of a history: so demand 3 holds of what they answer and leave.
+use reorder_offer::Offered;
 use reorder_pass::Passed;
 use reorder_serve::Drained;
 use reorder_serve::Served;
 use reorder_session::Session;
-use window::Window;
-ghost use Rattle.reorder_admission.specs.Admission.{said};
-ghost use Rattle.reorder.specs.Offer.{openOf};
-ghost use Rattle.reorder_turn.specs.Turn.{serveSaid};
-ghost use Rattle.reorder_pass.specs.Pass.{passSaid};
-ghost use Rattle.reorder_histories.specs.Histories.{offer, serve, drain, offerTells, serveTells, drainTells, passTells};
-ghost use Rattle.reorder_steps.specs.Steps.{reported, IsStart, IsStep, IsPassStep};
-ghost use Rattle.reorder_lent.specs.Lent.{Opens, Offers, Serves, Drains, Passes};
-ghost use Rattle.reorder_lent_steps.specs.LentCalls.{LentHistoriesLoseNothing, LentShort};
-
-// Each call over a lent session is a step of a list, so demand 3 holds of two histories of such calls.
-pub fn lent_histories_lose_nothing()
-    ensures { λ _. ⌜ LentHistoriesLoseNothing ⌝ }
-{}
+ghost use Rattle.reorder_admission.specs.Answer.{offerSaid};
+ghost use Rattle.reorder_session.specs.Session.{single};
+ghost use Rattle.reorder_session.specs.Calls.{Offers, Serves, Drains, Passes};
+ghost use Rattle.reorder_offer.specs.Opening.{Opens};
+ghost use Rattle.reorder_turn.specs.Answer.{serveSaid};
+ghost use Rattle.reorder_serve.specs.Report.{reportSaid, Reports};
+ghost use Rattle.reorder_pass.specs.Answer.{passSaid};
+ghost use Rattle.reorder_histories.specs.History.{offer, serve, drain, offerTells, serveTells, drainTells, passTells, IsStep, IsPassStep};
+ghost use Rattle.reorder_histories.specs.Made.{IsStart};
+ghost use Rattle.reorder_steps.specs.Short.{Short};
 
 // Each of these makes one call over a lent session. It promises what the call does, and that the call is the start, or a step, of a history.
 pub fn open_start(
@@ -26,41 +21,42 @@ pub fn open_start(
     store: &mut [u8],
     packet: &[u8],
     threshold: u32,
-    sum_word: u16,
+    sum_word: u32,
 ) -> Offered
-    ensures { λ r. ⌜ Opens session (now (store .entry)) (now (packet .entry)) threshold «sum_word» (r .answer) (r .session) (now (store .exit))
-        × IsStart (openOf session (now (store .entry)) (now (packet .entry)) threshold «sum_word») (now (packet .entry))
-        (r .session) (now (store .exit)) (offerTells (said (r .answer)) (now (packet .entry))) ⌝ }
+    ensures { λ r. ⌜ Opens session (now (store .entry)) (now (packet .entry)) threshold «sum_word» (offerSaid (r .answer)) (r .session) (now (store .exit))
+        × IsStart session (now (store .entry)) (now (packet .entry)) threshold «sum_word»
+        (r .session) (now (store .exit)) (offerTells (offerSaid (r .answer)) (now (packet .entry))) ⌝ }
 {
     reorder_local::open(session, store, packet, threshold, sum_word)
 }
 
 pub fn offer_step(session: Session, store: &mut [u8], packet: &[u8]) -> Offered
-    ensures { λ r. ⌜ Offers session (now (store .entry)) (now (packet .entry)) (r .answer) (r .session) (now (store .exit))
-        × IsStep session (now (store .entry)) (offer (now (packet .entry)))
-        (r .session) (now (store .exit)) (offerTells (said (r .answer)) (now (packet .entry))) ⌝ }
+    ensures { λ r. ⌜ Offers session (now (store .entry)) (now (packet .entry)) (offerSaid (r .answer)) (r .session) (now (store .exit))
+        × IsStep single session (now (store .entry)) (offer (now (packet .entry)))
+        (r .session) (now (store .exit)) (offerTells (offerSaid (r .answer)) (now (packet .entry))) ⌝ }
 {
     reorder_local::offer(session, store, packet)
 }
 
 pub fn serve_step(session: Session, out: &mut [u8], store: &[u8]) -> Served
-    ensures { λ r. ⌜ Serves session (now (out .entry)) (now (store .entry)) (r .answer) (r .session) (now (out .exit))
-        × IsStep session (now (store .entry)) (serve (now (out .entry)))
+    ensures { λ r. ⌜ Serves session (now (out .entry)) (now (store .entry)) (serveSaid (r .answer)) (r .session) (now (out .exit))
+        × IsStep single session (now (store .entry)) (serve (now (out .entry)))
         (r .session) (now (store .entry)) (serveTells (serveSaid (r .answer)) (now (out .exit))) ⌝ }
 {
     reorder_local::serve(session, out, store)
 }
 
 pub fn drain_step(session: Session, out: &mut [u8], store: &[u8], budget: u32) -> Drained
-    ensures { λ r. ⌜ Drains session (now (out .entry)) (now (store .entry)) budget (r .answer) (r .session) (now (out .exit))
-        × IsStep session (now (store .entry)) (drain (now (out .entry)) budget)
-        (r .session) (now (store .entry)) (drainTells (reported (r .answer)) (now (out .exit))) ⌝ }
+    ensures { λ r. ⌜ (Drains session (now (out .entry)) (now (store .entry)) budget (reportSaid (r .answer)) (r .session) (now (out .exit))
+        × Reports (r .answer) (reportSaid (r .answer)))
+        × IsStep single session (now (store .entry)) (drain (now (out .entry)) budget)
+        (r .session) (now (store .entry)) (drainTells (reportSaid (r .answer)) (now (out .exit))) ⌝ }
 {
     reorder_local::drain(session, out, store, budget)
 }
 
 pub fn pass_step(session: Session) -> Passed
-    ensures { λ r. ⌜ Passes session (r .answer) (r .session) × IsPassStep session (r .session) (passTells (passSaid (r .answer))) ⌝ }
+    ensures { λ r. ⌜ Passes session (passSaid (r .answer)) (r .session) × IsPassStep single session (r .session) (passTells (passSaid (r .answer))) ⌝ }
 {
     reorder_local::pass(session)
 }
@@ -72,20 +68,13 @@ pub fn open_offer_drain(
     first: &[u8],
     packet: &[u8],
     threshold: u32,
-    sum_word: u16,
+    sum_word: u32,
 ) -> Drained
-    ensures { λ r. ⌜ LentShort (now (store .entry)) (now (out .entry)) (now (first .entry)) (now (packet .entry)) threshold «sum_word»
-        (r .answer) (r .session) (now (store .exit)) (now (out .exit)) ⌝ }
+    ensures { λ r. ⌜ Short (now (store .entry)) (now (out .entry)) (now (first .entry)) (now (packet .entry)) threshold «sum_word»
+        (reportSaid (r .answer)) (r .session) (now (store .exit)) (now (out .exit))
+        × Reports (r .answer) (reportSaid (r .answer)) ⌝ }
 {
-    let anchor = Anchor { count: 0, time: 0 };
-    let window = Window { next: 0, marks: 0 };
-    let none = Session {
-        anchor,
-        sum_word: 0,
-        threshold: 0,
-        window,
-    };
-    let opened = reorder_local::open(none, store, first, threshold, sum_word);
+    let opened = reorder_local::open(reorder_offer::no_session(), store, first, threshold, sum_word);
     let offered = reorder_local::offer(opened.session, store, packet);
-    reorder_local::drain(offered.session, out, store, 32)
+    reorder_local::drain(offered.session, out, store, window::POSITIONS)
 }

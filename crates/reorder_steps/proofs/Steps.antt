@@ -1,6 +1,6 @@
 -- What the three calls of a short history promise, one after another.
 use Prim.Native.Nat.{ℕ}
-use mathlib.Core.Path.{_≡_, refl, sym, _∙_}
+use mathlib.Core.Path.{_≡_, refl, sym, _∙_, subst}
 use mathlib.Core.List.{List, [], _∷_, _++_}
 use Rattle.octets.specs.Refusal.{Said}
 use Rattle.reorder_rules.specs.Turn.{Turn}
@@ -10,6 +10,11 @@ use Rattle.reorder_offer.specs.Opening.{Opens, noSession}
 use Rattle.reorder_histories.specs.History.{offerTells, drainTells, MadeBy}
 use Rattle.reorder_histories.specs.Histories.{State}
 use Rattle.reorder_steps.specs.Short.{firstOf, secondOf, Short}
+
+-- an opening that is given a session of all zeros
+pub from-none : (store first : List ℕ) (threshold word : ℕ) {r s : Session} {c : List ℕ} {x : Said ℕ} → r ≡ noSession → Opens r store first threshold word x s c
+    → Opens noSession store first threshold word x s c
+from-none store first threshold word {r} {s} {c} {x} e p = subst (λ (z : Session). Opens z store first threshold word x s c) e p
 
 module _ (store out first b : List ℕ) (threshold word : ℕ) where
   pub short : {s t u : Session} {c d e : List ℕ} {x y : Said ℕ} {z : Said (List Turn)}

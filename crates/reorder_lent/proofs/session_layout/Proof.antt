@@ -15,7 +15,7 @@ returns c =
       sum-word = refl;
       threshold = refl;
       window = refl;
-      window-next = refl;
+      window-start = refl;
       window-marks = refl;
     }
 
