@@ -9,7 +9,7 @@ use lib.Seq.{take-suc, take-all, length-take-le}
 use Rattle.octets.specs.Bytes.{put}
 use Rattle.octets.proofs.Store.{put-then, put-nothing, put-length, put-whole}
 use Rattle.reorder_turn.specs.declared.Description.{Description}
-use Rattle.reorder_turn.specs.Turn.{none}
+use Rattle.reorder_turn.specs.Described.{none}
 use Rattle.reorder_descriptions.specs.Listed.{listed}
 
 pub listed-append : (a b : List Description) → listed (a ++ b) ≡ listed a ++ listed b

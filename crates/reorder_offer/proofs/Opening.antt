@@ -10,6 +10,7 @@ use lib.ListN.{length}
 use Rattle.octets.specs.Bytes.{put}
 use Rattle.packet.specs.Fields.{fieldsOf}
 use Rattle.reorder_rules.proofs.Said.{left-refused, comes}
+use Rattle.reorder_rules.proofs.Numbered.{Numbered, say-numbered, outcome-numbered}
 use Rattle.reorder_session.specs.declared.Session.{Session}
 use Rattle.reorder_session.specs.Session.{slotStart}
 use Rattle.reorder_offer.specs.Opening.{opened, openRefusal, openDue, openOf, Opens}
@@ -36,3 +37,8 @@ pub opens-itself : (s : Session) (store b : List ℕ) (h word : ℕ)
 unfolding openOf
 opens-itself s store b h word =
     comes (left-refused (openDue (length store) b h word) s store (λ p. opened (fieldsOf b) h word) (λ p. put store (slotStart p) b)) refl refl refl
+
+-- no refusal is 0
+pub open-numbered : (s : Session) (store b : List ℕ) (h word : ℕ) → Numbered (openOf s store b h word .said)
+unfolding openOf openDue
+open-numbered s store b h word = outcome-numbered (openDue (length store) b h word) s store _ _ (say-numbered (openRefusal (length store) b h word) 0)

@@ -5,3 +5,4 @@ pub mod Free
 pub mod Ready
 pub mod Turns
 pub mod Keeps
+pub mod Numbered

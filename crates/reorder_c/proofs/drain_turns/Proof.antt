@@ -1,0 +1,114 @@
+-- What `drain` promises, of the numbers, with what then stands in the lent numbers.
+use Prim.Native.Nat.{ℕ}
+use mathlib.Core.Path.{_≡_, refl, sym, ap, _∙_}
+use mathlib.Core.List.{List}
+use native.Mathlib.Omega.{arith}
+use denote.Ref.{now}
+use Rattle.octets.specs.Refusal.{Said, refused, answered}
+use Rattle.reorder_rules.specs.Turn.{Turn}
+use Rattle.reorder_rules.proofs.Said.{comes-by}
+use Rattle.reorder_rules.proofs.Numbered.{drain-numbered}
+use Rattle.reorder_session.specs.declared.Session.{Session}
+use Rattle.reorder_session.specs.Session.{single}
+use Rattle.reorder_session.specs.Calls.{Drains}
+use Rattle.reorder_serve.specs.Report.{drainSaid, reportSaid, counted, descriptions}
+use Rattle.reorder_descriptions.specs.Listed.{listed}
+use Rattle.reorder_c.specs.Answers.{drainedCount, tabled, turnsSaid, Tells}
+use Rattle.reorder_c.proofs.Told.{drain-told}
+use Rattle.reorder_c.proofs.Window.{drain-windowed, with-its-window}
+use borrow.Author.Needs.{needs}
+use Rattle.reorder_c.proofs.drain_turns.Statement.{statement}
+use Rattle.reorder_c.proofs.drain_turns.Tie as tie
+
+-- the lent numbers stay on a refusal, and have the descriptions otherwise
+table-stays : (x : Said (List Turn)) (d : List ℕ) (n : ℕ) → counted x ≡ refused n → d ≡ tabled x d
+table-stays (refused m) d n e = refl
+table-stays (answered ts) d n e = let z : _≡_ {A = ℕ} 0 1 = cc in absurd (omega arith)
+
+table-filled : (x : Said (List Turn)) (d : List ℕ) (k : ℕ) → counted x ≡ answered k → listed (descriptions x) ≡ tabled x d
+table-filled (refused n) d k e = let z : _≡_ {A = ℕ} 0 1 = cc in absurd (omega arith)
+table-filled (answered ts) d k e = refl
+
+abbrev start : tie.After-drained-count → tie.Start
+start c = c .before .before .before .before .before .before .before .before .before .before
+
+abbrev by-value : tie.After-drained-count → tie.After-drain
+by-value c = c .before .before .before .before .before .before
+
+-- what the report stands for
+abbrev due : tie.After-drained-count → Said (List Turn)
+due c = reportSaid (by-value c .drain .result .answer)
+
+abbrev old : tie.After-drained-count → List ℕ
+old c = now (start c .args .descriptions)
+
+count-is : (c : tie.After-drained-count) → drainSaid (by-value c .drain .result .answer .answer) ≡ counted (due c)
+count-is c = by-value c .drain .ensures .1 .count
+
+told : (c : tie.After-drained-count) (e : List ℕ) → e ≡ tabled (due c) (old c)
+    → let r = c .drained-count .result in
+    Drains (start c .args .session) (now (start c .args .out)) (now (start c .args .store)) (start c .args .budget)
+    (turnsSaid r e) (c .before .before .with-window .result) (by-value c .drain .last .1 .0)
+    × Tells r (old c) e (turnsSaid r e)
+told c e table =
+    let a = start c .args in
+    let o = by-value c .drain .ensures .0 in
+    let t = with-its-window (a .session) (c .before .before .with-window .ensures) (o .comes .session) (drain-windowed _ _ _ _) in
+    drain-told
+    (λ (x : Said (List Turn)). Drains (a .session) (now (a .out)) (now (a .store)) (a .budget) x (c .before .before .with-window .result) (by-value c .drain .last .1 .0))
+    (due c) _ (old c) e (λ n h. drain-numbered single _ _ _ _ n (sym (o .comes .answer) ∙ h))
+    (record { comes = comes-by (o .comes) refl t refl; count = ap (λ (s : Session). s .window .start) t ∙ o .count })
+    (record { count = c .drained-count .ensures ∙ ap drainedCount (count-is c); numbers = table })
+
+drain-requires : tie.Need-drain-requires
+drain-requires c κs = search needs
+
+with-window-requires : tie.Need-with-window-requires
+with-window-requires c κs = search needs
+
+drained-count-requires : tie.Need-drained-count-requires
+drained-count-requires c κs = search needs
+
+enum-told : tie.Need-enum-told
+enum-told c = search needs
+
+enum-told-2 : tie.Need-enum-told-2
+enum-told-2 c = search needs
+
+same-length : tie.Need-same-length
+same-length c = search needs
+
+returns : tie.Need-returns
+returns c =
+    let d = c .before .before in
+    told d _ (table-stays (due d) (old d) _ (sym (count-is d) ∙ ap drainSaid (c .enum-told2 .given .1)))
+
+put-descriptions-requires : tie.Need-put-descriptions-requires
+put-descriptions-requires c κs = search needs
+
+same-length-2 : tie.Need-same-length-2
+same-length-2 c = search needs
+
+returns-2 : tie.Need-returns-2
+returns-2 c =
+    let d = c .before .before .before .before .before in
+    let o = by-value d .drain .ensures .1 in
+    told d _
+    (c .put-descriptions .ensures
+    ∙ ap listed {y = descriptions (due d)} (o .described)
+    ∙ table-filled (due d) (old d) _ (sym (count-is d) ∙ ap drainSaid (c .before .before .before .enum-told .given .1)))
+
+pub drain-turns-spec : {M : Type 1} → statement M
+drain-turns-spec =
+    tie.close
+    (tie.spec
+    drain-requires
+    with-window-requires
+    drained-count-requires
+    enum-told
+    enum-told-2
+    same-length
+    returns
+    put-descriptions-requires
+    same-length-2
+    returns-2)

@@ -1,0 +1,238 @@
+// The reorder buffer's calls by value, with their answers in structs of numbers: what the functions for C and Rust stand on. Each call promises what
+// the call by value does, of what its numbers stand for, and that its numbers are no others.
+use reorder_admission::OfferAnswer;
+use reorder_pass::PassAnswer;
+use reorder_serve::DrainAnswer;
+use reorder_session::Session;
+use reorder_turn::Description;
+use reorder_turn::ServeAnswer;
+ghost use mathlib.Core.Path.{_≡_};
+ghost use Rattle.reorder_admission.specs.Answer.{offerSaid};
+ghost use Rattle.reorder_session.specs.Calls.{Offers, Serves, Drains, Passes};
+ghost use Rattle.reorder_offer.specs.Opening.{Opens};
+ghost use Rattle.reorder_turn.specs.Answer.{serveSaid};
+ghost use Rattle.reorder_serve.specs.Report.{drainSaid};
+ghost use Rattle.reorder_pass.specs.Answer.{passSaid};
+ghost use Rattle.reorder_c.specs.Answers.{heldAnswer, servedAnswer, passedAnswer, drainedCount, positionSaid, turnSaid, turnsSaid, Tells};
+
+// A refusal's number and zeros; or 0, a kind (0 Waiting, 1 a packet, 2 a missing position) and a position.
+#[repr(C)]
+pub struct Answer {
+    pub refusal: u32,
+    pub kind: u32,
+    pub position: u32,
+}
+
+// A refusal's number and 0; or 0 and how many answers there were.
+#[repr(C)]
+pub struct Count {
+    pub refusal: u32,
+    pub count: u32,
+}
+
+// What a call answers, and the session then.
+pub struct Answered {
+    pub answer: Answer,
+    pub session: Session,
+}
+
+// What a drain answers, and the session then.
+pub struct Counted {
+    pub answer: Count,
+    pub session: Session,
+}
+
+// The numbers of what an opening or an offer answers.
+fn held_answer(answer: OfferAnswer) -> Answer
+    ensures { λ r. ⌜ r ≡ heldAnswer (offerSaid answer) ⌝ }
+{
+    match answer {
+        OfferAnswer::Refused(n) => Answer {
+            refusal: n as u32,
+            kind: 0,
+            position: 0,
+        },
+        OfferAnswer::Held(p) => Answer {
+            refusal: 0,
+            kind: 1,
+            position: p,
+        },
+    }
+}
+
+// The numbers of what a serve answers: but for a refusal, its description.
+fn served_answer(answer: ServeAnswer) -> Answer
+    ensures { λ r. ⌜ r ≡ servedAnswer (serveSaid answer) ⌝ }
+{
+    if let ServeAnswer::Refused(n) = answer {
+        return Answer {
+            refusal: n as u32,
+            kind: 0,
+            position: 0,
+        };
+    }
+    let description = reorder_turn::describe(answer);
+    Answer {
+        refusal: 0,
+        kind: description.kind,
+        position: description.position,
+    }
+}
+
+// The numbers of what a pass answers.
+fn passed_answer(answer: PassAnswer) -> Answer
+    ensures { λ r. ⌜ r ≡ passedAnswer (passSaid answer) ⌝ }
+{
+    match answer {
+        PassAnswer::Refused(n) => Answer {
+            refusal: n as u32,
+            kind: 0,
+            position: 0,
+        },
+        PassAnswer::Missing(p) => Answer {
+            refusal: 0,
+            kind: 2,
+            position: p,
+        },
+    }
+}
+
+// The numbers of what a drain answers.
+fn drained_count(answer: DrainAnswer) -> Count
+    ensures { λ r. ⌜ r ≡ drainedCount (drainSaid answer) ⌝ }
+{
+    match answer {
+        DrainAnswer::Refused(n) => Count {
+            refusal: n as u32,
+            count: 0,
+        },
+        DrainAnswer::Count(k) => Count {
+            refusal: 0,
+            count: k,
+        },
+    }
+}
+
+// Opens a session with this packet at position 0. A refused opening returns the session given.
+pub fn open(
+    session: Session,
+    store: &mut [u8],
+    packet: &[u8],
+    threshold: u32,
+    sum_word: u32,
+) -> Answered
+    ensures { λ r. ⌜ Opens session (now (store .entry)) (now (packet .entry)) threshold «sum_word»
+        (positionSaid (r .answer)) (r .session) (now (store .exit))
+        × (r .answer ≡ heldAnswer (positionSaid (r .answer))) ⌝ }
+{
+    let opened = reorder_offer::open_or(session, store, packet, threshold, sum_word);
+    let answer = opened.answer;
+    let after = opened.session;
+    Answered {
+        answer: held_answer(answer),
+        session: after,
+    }
+}
+
+// Holds the packet at its position, in the position's 1,080 bytes of the store.
+pub fn offer(session: Session, store: &mut [u8], packet: &[u8]) -> Answered
+    ensures { λ r. ⌜ Offers session (now (store .entry)) (now (packet .entry)) (positionSaid (r .answer)) (r .session) (now (store .exit))
+        × (r .answer ≡ heldAnswer (positionSaid (r .answer))) ⌝ }
+{
+    let offered = reorder_offer::offer(session, store, packet);
+    let answer = offered.answer;
+    let after = offered.session;
+    Answered {
+        answer: held_answer(answer),
+        session: after,
+    }
+}
+
+// Serves the next position. A serve, a drain and a pass change the window alone, so that only the window is taken from the session returned.
+pub fn serve(session: Session, out: &mut [u8], store: &[u8]) -> Answered
+    ensures { λ r. ⌜ Serves session (now (out .entry)) (now (store .entry)) (turnSaid (r .answer)) (r .session) (now (out .exit))
+        × (r .answer ≡ servedAnswer (turnSaid (r .answer))) ⌝ }
+{
+    let served = reorder_serve::serve(session, out, store);
+    let answer = served.answer;
+    let after = served.session;
+    Answered {
+        answer: served_answer(answer),
+        session: reorder_session::with_window(session, after.window),
+    }
+}
+
+// Serves until a serve waits or the budget is spent; the answers are described in the lent numbers, unless it is refused.
+fn drain_turns(
+    session: Session,
+    out: &mut [u8],
+    store: &[u8],
+    budget: u32,
+    descriptions: &mut [u32; 64],
+) -> Counted
+    ensures { λ r. ⌜ Drains session (now (out .entry)) (now (store .entry)) budget
+        (turnsSaid (r .answer) (now (descriptions .exit))) (r .session) (now (out .exit))
+        × Tells (r .answer) (now (descriptions .entry)) (now (descriptions .exit)) (turnsSaid (r .answer) (now (descriptions .exit))) ⌝ }
+{
+    let drained = reorder_serve::drain(session, out, store, budget);
+    let returned = drained.session;
+    let after = reorder_session::with_window(session, returned.window);
+    let report = drained.answer;
+    let answer = report.answer;
+    let count = drained_count(answer);
+    let DrainAnswer::Count(_) = answer else {
+        return Counted {
+            answer: count,
+            session: after,
+        };
+    };
+    let described = report.descriptions;
+    reorder_descriptions::put_descriptions(described, descriptions);
+    Counted {
+        answer: count,
+        session: after,
+    }
+}
+
+// The same, but that a drain that has nothing to serve stores its zeros at once, with no array of descriptions between.
+pub fn drain(
+    session: Session,
+    out: &mut [u8],
+    store: &[u8],
+    budget: u32,
+    descriptions: &mut [u32; 64],
+) -> Counted
+    ensures { λ r. ⌜ Drains session (now (out .entry)) (now (store .entry)) budget
+        (turnsSaid (r .answer) (now (descriptions .exit))) (r .session) (now (out .exit))
+        × Tells (r .answer) (now (descriptions .entry)) (now (descriptions .exit)) (turnsSaid (r .answer) (now (descriptions .exit))) ⌝ }
+{
+    let n = reorder_turn::drain_refusal(session, store.len(), out.len(), budget);
+    if (n == 0) & reorder_turn::waits(session) {
+        let none = [Description {
+            kind: 0,
+            position: 0,
+        }; 32];
+        reorder_descriptions::put_descriptions(none, descriptions);
+        return Counted {
+            answer: Count {
+                refusal: 0,
+                count: 0,
+            },
+            session,
+        };
+    }
+    drain_turns(session, out, store, budget, descriptions)
+}
+
+// Passes next over, by hand.
+pub fn pass(session: Session) -> Answered
+    ensures { λ r. ⌜ Passes session (positionSaid (r .answer)) (r .session) × (r .answer ≡ passedAnswer (positionSaid (r .answer))) ⌝ }
+{
+    let passed = reorder_pass::pass(session);
+    let answer = passed.answer;
+    let after = passed.session;
+    Answered {
+        answer: passed_answer(answer),
+        session: reorder_session::with_window(session, after.window),
+    }
+}

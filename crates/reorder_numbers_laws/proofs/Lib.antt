@@ -1,3 +1,0 @@
-mod Refusals
-mod Said
-mod Histories

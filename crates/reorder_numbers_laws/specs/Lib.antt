@@ -1,3 +1,0 @@
-pub mod LentCalls
-pub mod RefusalNumbers
-pub mod NumberedCalls
