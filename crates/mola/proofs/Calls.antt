@@ -1,22 +1,23 @@
--- The five calls, as the walk over a lent session takes them (`lent_record`, `LentWalk.antt`). A call by value in numbers already promises what the
--- function over the lent session does.
-use mathlib.Core.Path.{refl}
+-- The five calls, as the walk over a lent session takes them (`lent_record`, `LentWalk.antt`).
+use mathlib.Core.Path.{_≡_, refl}
 use mathlib.Core.List.{List, [], _∷_}
 use mir.Syntax.{w8, w32}
 use Rattle.reorder_session.proofs.Lent.{session}
 use Rattle.lent_record.proofs.Params.{Param, writes, reads, writes-array, number}
 use Rattle.lent_record.proofs.Result.{Result, result}
-use Rattle.lent_record.proofs.Promises.{Promises}
+use Rattle.lent_record.proofs.Promises.{Promise}
 use Rattle.reorder_lent.proofs.Calls.{open-takes, offer-takes, serve-takes, pass-takes}
-use Rattle.reorder_numbers.specs.declared.Answered.{Answered}
-use Rattle.reorder_numbers.specs.declared.Counted.{Counted}
-use Rattle.reorder_numbers.specs.Numbers.{Opens, Offers, Serves, Drains, Passes}
-use Rattle.reorder_numbers.proofs.Answered as Answered-type
-use Rattle.reorder_numbers.proofs.Answer as Answer-type
-use Rattle.reorder_numbers.proofs.Answer.Laws as Answer-laws
-use Rattle.reorder_numbers.proofs.Counted as Counted-type
-use Rattle.reorder_numbers.proofs.Count as Count-type
-use Rattle.reorder_numbers.proofs.Count.Laws as Count-laws
+use Rattle.reorder_c.specs.declared.Answered.{Answered}
+use Rattle.reorder_c.specs.declared.Counted.{Counted}
+use Rattle.reorder_session.specs.Calls.{Offers, Serves, Drains, Passes}
+use Rattle.reorder_offer.specs.Opening.{Opens}
+use Rattle.reorder_c.specs.Answers.{heldAnswer, servedAnswer, passedAnswer, positionSaid, turnSaid, turnsSaid, Tells}
+use Rattle.reorder_c.proofs.Answered as Answered-type
+use Rattle.reorder_c.proofs.Answer as Answer-type
+use Rattle.reorder_c.proofs.Answer.Laws as Answer-laws
+use Rattle.reorder_c.proofs.Counted as Counted-type
+use Rattle.reorder_c.proofs.Count as Count-type
+use Rattle.reorder_c.proofs.Count.Laws as Count-laws
 
 abbrev pub answered : Result session
 answered =
@@ -32,42 +33,18 @@ counted =
 abbrev pub described-takes : List Param
 described-takes = writes w8 ∷ reads w8 ∷ number w32 ∷ writes-array w32 64 ∷ []
 
-abbrev pub open-promises : Promises answered open-takes
-open-promises =
-    record {
-      says = λ s i x z. Opens s (i .0) (i .1 .0) (i .1 .1 .0) (i .1 .1 .1 .0) (x .answer) (x .session) (z .0);
-      tells = λ s i y t z. Opens s (i .0) (i .1 .0) (i .1 .1 .0) (i .1 .1 .1 .0) y t (z .0);
-      so = λ s i x z e. e;
-    }
+abbrev pub open-promise : Promise answered open-takes
+open-promise s i y t z = Opens s (i .0) (i .1 .0) (i .1 .1 .0) (i .1 .1 .1 .0) (positionSaid y) t (z .0) × (y ≡ heldAnswer (positionSaid y))
 
-abbrev pub offer-promises : Promises answered offer-takes
-offer-promises =
-    record {
-      says = λ s i x z. Offers s (i .0) (i .1 .0) (x .answer) (x .session) (z .0);
-      tells = λ s i y t z. Offers s (i .0) (i .1 .0) y t (z .0);
-      so = λ s i x z e. e;
-    }
+abbrev pub offer-promise : Promise answered offer-takes
+offer-promise s i y t z = Offers s (i .0) (i .1 .0) (positionSaid y) t (z .0) × (y ≡ heldAnswer (positionSaid y))
 
-abbrev pub serve-promises : Promises answered serve-takes
-serve-promises =
-    record {
-      says = λ s i x z. Serves s (i .0) (i .1 .0) (x .answer) (x .session) (z .0);
-      tells = λ s i y t z. Serves s (i .0) (i .1 .0) y t (z .0);
-      so = λ s i x z e. e;
-    }
+abbrev pub serve-promise : Promise answered serve-takes
+serve-promise s i y t z = Serves s (i .0) (i .1 .0) (turnSaid y) t (z .0) × (y ≡ servedAnswer (turnSaid y))
 
-abbrev pub drain-promises : Promises counted described-takes
-drain-promises =
-    record {
-      says = λ s i x z. Drains s (i .0) (i .1 .0) (i .1 .1 .0) (i .1 .1 .1 .0) (x .answer) (x .session) (z .0) (z .1 .0);
-      tells = λ s i y t z. Drains s (i .0) (i .1 .0) (i .1 .1 .0) (i .1 .1 .1 .0) y t (z .0) (z .1 .0);
-      so = λ s i x z e. e;
-    }
+abbrev pub drain-promise : Promise counted described-takes
+drain-promise s i y t z =
+    Drains s (i .0) (i .1 .0) (i .1 .1 .0) (turnsSaid y (z .1 .0)) t (z .0) × Tells y (i .1 .1 .1 .0) (z .1 .0) (turnsSaid y (z .1 .0))
 
-abbrev pub pass-promises : Promises answered pass-takes
-pass-promises =
-    record {
-      says = λ s i x z. Passes s (x .answer) (x .session);
-      tells = λ s i y t z. Passes s y t;
-      so = λ s i x z e. e;
-    }
+abbrev pub pass-promise : Promise answered pass-takes
+pass-promise s i y t z = Passes s (positionSaid y) t × (y ≡ passedAnswer (positionSaid y))

@@ -6,11 +6,11 @@ use mir.Syntax.{tyInt, w8, w16, w32}
 use mir.Val.{vint, vstruct, vcons, vnil}
 use prog.Memory.{size, align, fieldOf}
 use Rattle.packet.specs.declared.PacketFields.{PacketFields}
-use Rattle.reorder_numbers.specs.declared.Answer.{Answer}
-use Rattle.reorder_numbers.specs.declared.Count.{Count}
+use Rattle.reorder_c.specs.declared.Answer.{Answer}
+use Rattle.reorder_c.specs.declared.Count.{Count}
 use Rattle.packet.proofs.PacketFields.Laws as In-fields
-use Rattle.reorder_numbers.proofs.Answer.Laws as In-answer
-use Rattle.reorder_numbers.proofs.Count.Laws as In-count
+use Rattle.reorder_c.proofs.Answer.Laws as In-answer
+use Rattle.reorder_c.proofs.Count.Laws as In-count
 
 pub record StructLayouts : Type 0 where
   -- a packet's fields

@@ -3,8 +3,8 @@ use packet::PacketAnswer;
 use packet::PacketArrays;
 use packet::PacketFields;
 use packet_writer::PacketWritten;
-use reorder_numbers::Answer;
-use reorder_numbers::Count;
+use reorder_c::Answer;
+use reorder_c::Count;
 use reorder_session::Session;
 ghost use mathlib.Core.Path.{_≡_};
 ghost use Rattle.checksum.specs.Sum.{packetSum};
@@ -12,7 +12,9 @@ ghost use Rattle.packet_check.specs.Refusal.{readRefusal};
 ghost use Rattle.packet.specs.Read.{readSaid};
 ghost use Rattle.packet_writer.specs.Write.{writeRefusal, writeBytes};
 ghost use Rattle.pedr_check.specs.Refusal.{recordRefusal};
-ghost use Rattle.reorder_numbers.specs.Numbers.{Opens, Offers, Serves, Drains, Passes};
+ghost use Rattle.reorder_session.specs.Calls.{Offers, Serves, Drains, Passes};
+ghost use Rattle.reorder_offer.specs.Opening.{Opens};
+ghost use Rattle.reorder_c.specs.Answers.{heldAnswer, servedAnswer, passedAnswer, positionSaid, turnSaid, turnsSaid, Tells};
 ghost use Rattle.mola.specs.Layout.{StructLayouts};
 ghost use Rattle.mola.specs.Read.{noFields, inNumbers};
 
@@ -120,12 +122,12 @@ pub extern "C" fn mola_open(
     store: &mut [u8],
     packet: &[u8],
     threshold: u32,
-    sum_word: u16,
+    sum_word: u32,
 ) -> Answer
     ensures { λ r. ⌜ Opens (now (session .entry)) (now (store .entry)) (now (packet .entry)) threshold «sum_word»
-        r (now (session .exit)) (now (store .exit)) ⌝ }
+        (positionSaid r) (now (session .exit)) (now (store .exit)) × (r ≡ heldAnswer (positionSaid r)) ⌝ }
 {
-    let opened = reorder_numbers::open(*session, store, packet, threshold, sum_word);
+    let opened = reorder_c::open(*session, store, packet, threshold, sum_word);
     *session = opened.session;
     opened.answer
 }
@@ -133,9 +135,10 @@ pub extern "C" fn mola_open(
 // Holds the packet at its position, in the position's 1,080 bytes of the store.
 #[no_mangle]
 pub extern "C" fn mola_offer(session: &mut Session, store: &mut [u8], packet: &[u8]) -> Answer
-    ensures { λ r. ⌜ Offers (now (session .entry)) (now (store .entry)) (now (packet .entry)) r (now (session .exit)) (now (store .exit)) ⌝ }
+    ensures { λ r. ⌜ Offers (now (session .entry)) (now (store .entry)) (now (packet .entry)) (positionSaid r) (now (session .exit)) (now (store .exit))
+        × (r ≡ heldAnswer (positionSaid r)) ⌝ }
 {
-    let offered = reorder_numbers::offer(*session, store, packet);
+    let offered = reorder_c::offer(*session, store, packet);
     *session = offered.session;
     offered.answer
 }
@@ -143,9 +146,10 @@ pub extern "C" fn mola_offer(session: &mut Session, store: &mut [u8], packet: &[
 // Serves the next position.
 #[no_mangle]
 pub extern "C" fn mola_serve(session: &mut Session, out: &mut [u8], store: &[u8]) -> Answer
-    ensures { λ r. ⌜ Serves (now (session .entry)) (now (out .entry)) (now (store .entry)) r (now (session .exit)) (now (out .exit)) ⌝ }
+    ensures { λ r. ⌜ Serves (now (session .entry)) (now (out .entry)) (now (store .entry)) (turnSaid r) (now (session .exit)) (now (out .exit))
+        × (r ≡ servedAnswer (turnSaid r)) ⌝ }
 {
-    let served = reorder_numbers::serve(*session, out, store);
+    let served = reorder_c::serve(*session, out, store);
     *session = served.session;
     served.answer
 }
@@ -159,10 +163,11 @@ pub extern "C" fn mola_drain(
     budget: u32,
     descriptions: &mut [u32; 64],
 ) -> Count
-    ensures { λ r. ⌜ Drains (now (session .entry)) (now (out .entry)) (now (store .entry)) budget (now (descriptions .entry))
-        r (now (session .exit)) (now (out .exit)) (now (descriptions .exit)) ⌝ }
+    ensures { λ r. ⌜ Drains (now (session .entry)) (now (out .entry)) (now (store .entry)) budget
+        (turnsSaid r (now (descriptions .exit))) (now (session .exit)) (now (out .exit))
+        × Tells r (now (descriptions .entry)) (now (descriptions .exit)) (turnsSaid r (now (descriptions .exit))) ⌝ }
 {
-    let drained = reorder_numbers::drain(*session, out, store, budget, descriptions);
+    let drained = reorder_c::drain(*session, out, store, budget, descriptions);
     *session = drained.session;
     drained.answer
 }
@@ -170,9 +175,9 @@ pub extern "C" fn mola_drain(
 // Passes next over, by hand.
 #[no_mangle]
 pub extern "C" fn mola_pass(session: &mut Session) -> Answer
-    ensures { λ r. ⌜ Passes (now (session .entry)) r (now (session .exit)) ⌝ }
+    ensures { λ r. ⌜ Passes (now (session .entry)) (positionSaid r) (now (session .exit)) × (r ≡ passedAnswer (positionSaid r)) ⌝ }
 {
-    let passed = reorder_numbers::pass(*session);
+    let passed = reorder_c::pass(*session);
     *session = passed.session;
     passed.answer
 }
