@@ -2,6 +2,9 @@
 use packet::PacketAnswer;
 use packet::PacketArrays;
 use packet::PacketFields;
+use packet_layout::BINS;
+use packet_layout::READINGS;
+use packet_layout::TEMPERATURES;
 use packet_writer::PacketWritten;
 use reorder_numbers::Answer;
 use reorder_numbers::Count;
@@ -81,9 +84,9 @@ pub extern "C" fn mola_packet_sum(bytes: &[u8], sum_word: usize) -> u16
 #[no_mangle]
 pub extern "C" fn mola_write_packet(
     fields: PacketFields,
-    temperatures: &[u8; 16],
-    readings: &[u8; 14],
-    bins: &[u8; 48],
+    temperatures: &[u8; TEMPERATURES],
+    readings: &[u8; READINGS],
+    bins: &[u8; BINS],
     carried: &[u8],
     sum_word: usize,
     out: &mut [u8],

@@ -16,7 +16,7 @@ said (Accepted f) = answered f
 
 -- what the reader says of the bytes, and the arrays beside it
 abbrev pub readSaid : List ℕ → ℕ → Said PacketFields
-readSaid bs w = say (readRefusal bs w) (fieldsOf bs)
+readSaid bs word = say (readRefusal bs word) (fieldsOf bs)
 
 abbrev pub readArrays : List ℕ → ℕ → PacketArrays
-readArrays bs w = after (readRefusal bs w) (arraysOf bs) noArrays
+readArrays bs word = after (readRefusal bs word) (arraysOf bs) noArrays

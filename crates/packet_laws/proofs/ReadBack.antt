@@ -14,7 +14,7 @@ use Rattle.checksum.specs.Sum.{packetSum, wordAt, wordSum, zeroed}
 use Rattle.checksum.proofs.Sum.{sum-lt}
 use Rattle.packet_bins.specs.Bins.{binByte, binsOf}
 use Rattle.packet_bins.proofs.Swap.{bins-length, bins-at, bin-byte-range, bin-byte-twice}
-use Rattle.packet_check.specs.Layout as columns
+use Rattle.packet_layout.specs.Layout as columns
 use Rattle.packet_check.specs.Refusal.{readRefusal}
 use Rattle.packet_check.proofs.Accept.{Accepted, accepts}
 use Rattle.packet.specs.Fields.{fieldsOf, arraysOf, noArrays}

@@ -18,7 +18,7 @@ use Rattle.layout.proofs.Cover.{join-cut}
 use Rattle.checksum.specs.Sum.{packetSum}
 use Rattle.packet_bins.specs.Bins.{binByte, binsOf}
 use Rattle.packet_bins.proofs.Swap.{bins-at, bin-byte-range, bin-byte-twice}
-use Rattle.packet_check.specs.Layout as columns
+use Rattle.packet_layout.specs.Layout as columns
 use Rattle.packet_check.specs.Refusal.{readRefusal}
 use Rattle.packet_check.proofs.Accept.{Accepted, accepted}
 use Rattle.packet.specs.Fields.{fieldsOf, arraysOf, carriedOf}

@@ -5,8 +5,9 @@ use mathlib.Core.List.{List}
 use lib.ListN.{length}
 use borrow.Author.Tests.{eqb-true, leb-true}
 use Rattle.octets.specs.Bytes.{octetsOf, put}
-use Rattle.octets.proofs.Ladder.{passed, within-true}
+use Rattle.octets.proofs.Ladder.{passed}
 use Rattle.checksum.specs.Sum.{packetSum}
+use Rattle.packet_layout.proofs.SumWord.{sum-word-range}
 use Rattle.packet.specs.declared.PacketFields.{PacketFields}
 use Rattle.packet.specs.declared.PacketArrays.{PacketArrays}
 use Rattle.packet_writer.specs.Write.{writeRefusal, unsummed, packetOf}
@@ -28,7 +29,7 @@ writable f x w out e =
     let c3 = passed _ 16 _ (c2 .1) in
     let c4 = passed _ 16 _ (c3 .1) in
     let c5 = passed _ 17 _ (c4 .1) in
-    let r = within-true 53 539 w (c1 .0) in
+    let r = sum-word-range w (c1 .0) in
     record {
       from = r .0;
       to = r .1;

@@ -32,7 +32,7 @@ shotOf s k =
 
 -- 11 to 15, then 16: shot not 1 to 20
 unfoldable pub shotRefusal : List ℕ → ℕ → ℕ
-shotRefusal s k = recordRefusal s then refuse 16 unless within 1 20 k else 0
+shotRefusal s k = recordRefusal s then refuse 16 unless within 1 columns.shotCount k else 0
 
 -- the number, or the shot, that each case of the answer stands for
 abbrev pub said : ShotAnswer → Said ShotFields
