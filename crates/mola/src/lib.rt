@@ -12,16 +12,16 @@ use reorder_session::Session;
 ghost use mathlib.Core.Path.{_≡_};
 ghost use Rattle.checksum.specs.Sum.{packetSum};
 ghost use Rattle.packet_check.specs.Refusal.{readRefusal};
-ghost use Rattle.packet.specs.Read.{readSaid};
+ghost use Rattle.packet.specs.Read.{readDue};
 ghost use Rattle.packet_writer.specs.Write.{writeRefusal, writeBytes};
 ghost use Rattle.pedr_check.specs.Refusal.{recordRefusal};
 ghost use Rattle.reorder_numbers.specs.Numbers.{Opens, Offers, Serves, Drains, Passes};
 ghost use Rattle.mola.specs.Layout.{StructLayouts};
-ghost use Rattle.mola.specs.Read.{noFields, inNumbers};
+ghost use Rattle.mola.specs.Read.{noFields, asRead};
 
 // A packet's refusal number, or 0, and its fields, which are all zeros on a refusal.
 #[repr(C)]
-pub struct PacketNumbers {
+pub struct PacketRead {
     pub refusal: u32,
     pub fields: PacketFields,
 }
@@ -59,16 +59,16 @@ fn no_fields() -> PacketFields
 
 // The refusal number of a packet whose sum stands at word sum_word, or 0, and its fields.
 #[no_mangle]
-pub extern "C" fn mola_read_packet(packet: &[u8], sum_word: usize) -> PacketNumbers
-    ensures { λ r. ⌜ r ≡ inNumbers (readSaid (now (packet .entry)) «sum_word») ⌝ }
+pub extern "C" fn mola_read_packet(packet: &[u8], sum_word: usize) -> PacketRead
+    ensures { λ r. ⌜ r ≡ asRead (readDue (now (packet .entry)) «sum_word») ⌝ }
 {
     let answer = packet::read_answer(packet, sum_word);
     match answer {
-        PacketAnswer::Refused(n) => PacketNumbers {
+        PacketAnswer::Refused(n) => PacketRead {
             refusal: n as u32,
             fields: no_fields(),
         },
-        PacketAnswer::Accepted(fields) => PacketNumbers { refusal: 0, fields },
+        PacketAnswer::Accepted(fields) => PacketRead { refusal: 0, fields },
     }
 }
 

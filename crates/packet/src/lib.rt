@@ -9,9 +9,9 @@ use packet_layout::STATUS_AT;
 use packet_layout::TEMPERATURES;
 use packet_layout::TEMPERATURES_AT;
 ghost use mathlib.Core.Path.{_≡_};
-ghost use Rattle.octets.specs.Refusal.{numberSaid};
+ghost use Rattle.octets.specs.Refusal.{refusalIn};
 ghost use Rattle.packet.specs.Fields.{fieldsOf, arraysOf, carriedOf};
-ghost use Rattle.packet.specs.Read.{said, readSaid, readArrays};
+ghost use Rattle.packet.specs.Read.{packetSaid, readDue, readArrays};
 
 // The free fields that are single numbers, laid out as C does.
 #[repr(C)]
@@ -90,7 +90,7 @@ fn read_arrays(bytes: &[u8]) -> PacketArrays
 
 // Reads the single fields of a packet whose sum stands at word sum_word. Any bytes, any word.
 pub fn read_answer(bytes: &[u8], sum_word: usize) -> PacketAnswer
-    ensures { λ r. ⌜ said r ≡ readSaid (now (bytes .entry)) «sum_word» ⌝ }
+    ensures { λ r. ⌜ packetSaid r ≡ readDue (now (bytes .entry)) «sum_word» ⌝ }
 {
     let n = packet_check::packet_refusal(bytes, sum_word);
     if n != 0 {
@@ -101,7 +101,7 @@ pub fn read_answer(bytes: &[u8], sum_word: usize) -> PacketAnswer
 
 // Reads a packet, the arrays too.
 pub fn read_packet(bytes: &[u8], sum_word: usize) -> PacketRead
-    ensures { λ r. ⌜ (said (r .answer) ≡ readSaid (now (bytes .entry)) «sum_word») × (r .arrays ≡ readArrays (now (bytes .entry)) «sum_word») ⌝ }
+    ensures { λ r. ⌜ (packetSaid (r .answer) ≡ readDue (now (bytes .entry)) «sum_word») × (r .arrays ≡ readArrays (now (bytes .entry)) «sum_word») ⌝ }
 {
     let answer = read_answer(bytes, sum_word);
     let PacketAnswer::Accepted(_) = answer else {
@@ -122,7 +122,7 @@ pub fn read_packet(bytes: &[u8], sum_word: usize) -> PacketRead
 
 // The refusal's number, or 0 for an accepted packet.
 pub fn refusal_number(answer: PacketAnswer) -> u8
-    ensures { λ r. ⌜ r ≡ numberSaid (said answer) ⌝ }
+    ensures { λ r. ⌜ r ≡ refusalIn (packetSaid answer) ⌝ }
 {
     match answer {
         PacketAnswer::Refused(n) => n,

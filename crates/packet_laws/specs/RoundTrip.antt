@@ -11,7 +11,7 @@ use Rattle.checksum.specs.Sum.{packetSum}
 use Rattle.packet_layout.specs.Layout as columns
 use Rattle.packet_check.specs.Refusal.{readRefusal}
 use Rattle.packet.specs.Fields.{fieldsOf, arraysOf, carriedOf, noArrays}
-use Rattle.packet.specs.Read.{readSaid, readArrays}
+use Rattle.packet.specs.Read.{readDue, readArrays}
 use Rattle.packet.specs.declared.PacketFields.{PacketFields}
 use Rattle.packet.specs.declared.PacketArrays.{PacketArrays}
 use Rattle.packet_writer.specs.Write.{packetOf, writeRefusal}
@@ -34,7 +34,7 @@ pub record Typed (f : PacketFields) (a : PacketArrays) : Type 0 where
 abbrev pub ReadsBack : Type 0
 ReadsBack =
     (f : PacketFields) (a : PacketArrays) (x : List ℕ) (word : ℕ) (out : List ℕ) → Typed f a → writeRefusal f x word out ≡ 0
-    → (readSaid (packetOf f a x word) word ≡ answered f)
+    → (readDue (packetOf f a x word) word ≡ answered f)
     × (readArrays (packetOf f a x word) word ≡ a)
     × (carriedOf (packetOf f a x word) ≡ put x (word * 2 - columns.carried .start) (octetsOf 2 (packetSum (packetOf f a x word) word)))
 
@@ -49,15 +49,15 @@ WritesBack =
 unfoldable pub copyRefusal : List ℕ → ℕ → List ℕ → ℕ
 copyRefusal bs word out = readRefusal bs word then refuse 18 unless eqb (length out) columns.packetSize else 0
 
-abbrev pub copySaid : List ℕ → ℕ → List ℕ → Said (Unit {0})
-copySaid bs word out = say (copyRefusal bs word out) tt
+abbrev pub copyDue : List ℕ → ℕ → List ℕ → Said (Unit {0})
+copyDue bs word out = say (copyRefusal bs word out) tt
 
 abbrev pub copyBytes : List ℕ → ℕ → List ℕ → List ℕ
 copyBytes bs word out = after (copyRefusal bs word out) bs out
 
 -- writing and reading again: the writer's refusals, else the fields and arrays that were given
-abbrev pub echoSaid : PacketFields → List ℕ → ℕ → List ℕ → Said PacketFields
-echoSaid f x word out = say (writeRefusal f x word out) f
+abbrev pub echoDue : PacketFields → List ℕ → ℕ → List ℕ → Said PacketFields
+echoDue f x word out = say (writeRefusal f x word out) f
 
 abbrev pub echoArrays : PacketFields → PacketArrays → List ℕ → ℕ → List ℕ → PacketArrays
 echoArrays f a x word out = after (writeRefusal f x word out) a noArrays

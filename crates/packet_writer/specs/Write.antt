@@ -80,13 +80,13 @@ writeRefusal f x word out =
     0
 
 -- the number that each case of the answer stands for
-abbrev pub saidWritten : PacketWritten → Said (Unit {0})
-saidWritten (Refused n) = refused n
-saidWritten Written = answered tt
+abbrev pub writtenSaid : PacketWritten → Said (Unit {0})
+writtenSaid (Refused n) = refused n
+writtenSaid Written = answered tt
 
--- what the writer says, and the bytes then in the output
-abbrev pub writeSaid : PacketFields → List ℕ → ℕ → List ℕ → Said (Unit {0})
-writeSaid f x word out = say (writeRefusal f x word out) tt
+-- what is due of the writer, and the bytes then in the output
+abbrev pub writeDue : PacketFields → List ℕ → ℕ → List ℕ → Said (Unit {0})
+writeDue f x word out = say (writeRefusal f x word out) tt
 
 abbrev pub writeBytes : PacketFields → PacketArrays → List ℕ → ℕ → List ℕ → List ℕ
 writeBytes f a x word out = after (writeRefusal f x word out) (packetOf f a x word) out

@@ -25,7 +25,7 @@ ghost use Rattle.layout.specs.Column.{join};
 ghost use Rattle.packet_layout.specs.Layout as columns;
 ghost use Rattle.packet_layout.specs.Header.{mostCount};
 ghost use Rattle.packet_bins.specs.Bins.{binByte};
-ghost use Rattle.packet_writer.specs.Write.{headParts, statusParts, histogramOf, unsummed, writeRefusal, saidWritten, writeSaid, writeBytes};
+ghost use Rattle.packet_writer.specs.Write.{headParts, statusParts, histogramOf, unsummed, writeRefusal, writtenSaid, writeDue, writeBytes};
 
 // A refusal with its number, or the packet is in the output.
 pub enum PacketWritten {
@@ -161,7 +161,7 @@ pub fn write_packet(
     sum_word: usize,
     out: &mut [u8],
 ) -> PacketWritten
-    ensures { λ r. ⌜ (saidWritten r ≡ writeSaid fields (now (carried .entry)) «sum_word» (now (out .entry)))
+    ensures { λ r. ⌜ (writtenSaid r ≡ writeDue fields (now (carried .entry)) «sum_word» (now (out .entry)))
         × (now (out .exit) ≡ writeBytes fields arrays (now (carried .entry)) «sum_word» (now (out .entry))) ⌝ }
 {
     let n = refusal(fields, carried, sum_word, out);

@@ -15,9 +15,9 @@ use pedr_layout::SHOTS;
 use pedr_layout::TRIGGER_CHANNEL_AT;
 ghost use mathlib.Core.Path.{_≡_};
 ghost use Prim.Native.Nat.{_≤_};
-ghost use Rattle.octets.specs.Refusal.{numberSaid};
+ghost use Rattle.octets.specs.Refusal.{refusalIn};
 ghost use Rattle.pedr_layout.specs.Layout.{shotCount};
-ghost use Rattle.pedr_shot.specs.Shot.{shotOf, shotRefusal, said, shotSaid};
+ghost use Rattle.pedr_shot.specs.Shot.{shotOf, shotRefusal, shotSaid, shotDue};
 
 // A shot's value of each column of 20, whether it is good, and the tests that it failed.
 pub struct ShotFields {
@@ -79,7 +79,7 @@ fn read_fields(bytes: &[u8], shot: usize) -> ShotFields
 
 // Reads one shot of a record. Any bytes, any shot.
 pub fn read_shot(bytes: &[u8], shot: usize) -> ShotAnswer
-    ensures { λ r. ⌜ said r ≡ shotSaid (now (bytes .entry)) shot ⌝ }
+    ensures { λ r. ⌜ shotSaid r ≡ shotDue (now (bytes .entry)) shot ⌝ }
 {
     let n = refusal(bytes, shot);
     if n != 0 {
@@ -90,7 +90,7 @@ pub fn read_shot(bytes: &[u8], shot: usize) -> ShotAnswer
 
 // The refusal's number, or 0 for a shot that was read.
 pub fn refusal_number(answer: ShotAnswer) -> u8
-    ensures { λ r. ⌜ r ≡ numberSaid (said answer) ⌝ }
+    ensures { λ r. ⌜ r ≡ refusalIn (shotSaid answer) ⌝ }
 {
     match answer {
         ShotAnswer::Refused(n) => n,

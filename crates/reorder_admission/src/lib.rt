@@ -15,7 +15,7 @@ pub enum OfferAnswer {
 
 // Where a packet is held, by its position: refusals 21 to 25, or the position.
 fn position_answer(window: Window, located: Located) -> OfferAnswer
-    ensures { λ r. ⌜ said r ≡ admitted window (at.said located) ⌝ }
+    ensures { λ r. ⌜ said r ≡ admitted window (at.locatedSaid located) ⌝ }
 {
     let Located::At(p) = located else {
         return OfferAnswer::Refused(21);

@@ -30,14 +30,14 @@ is-sum-word-requires c κs = search needs
 
 returns-2 : tie.Need-returns-2
 unfolding readRefusal
-returns-2 c = let w = sym (c .before .is-sum-word .ensures) ∙ not-true _ (c .if2 .taken) in search (fail, rungs) depth 10
+returns-2 c = let p = sym (c .before .is-sum-word .ensures) ∙ not-true _ (c .if2 .taken) in search (fail, rungs) depth 10
 
 header-refusal-requires : tie.Need-header-refusal-requires
 header-refusal-requires c κs = search needs
 
 returns-3 : tie.Need-returns-3
 unfolding readRefusal
-returns-3 c = let w = placed (c .before .before) in let h = c .before .header-refusal .ensures in search (pass, rungs) depth 10
+returns-3 c = let p = placed (c .before .before) in let h = c .before .header-refusal .ensures in search (pass, rungs) depth 10
 
 u8-at-requires : tie.Need-u8-at-requires
 u8-at-requires c κs = search needs
@@ -46,7 +46,7 @@ returns-4 : tie.Need-returns-4
 unfolding readRefusal
 returns-4 c =
     let e = c .before .before in
-    let w = placed (e .before .before) in
+    let p = placed (e .before .before) in
     let h = headed e in
     rw (← c .before .u8-at .ensures) (search (pass, rungs) depth 10)
 
@@ -66,7 +66,7 @@ returns-5 : tie.Need-returns-5
 unfolding readRefusal
 returns-5 c =
     let e = c .before .before .before .before .before in
-    let w = placed (e .before .before) in
+    let p = placed (e .before .before) in
     let h = headed e in
     rw (← c .before .before .before .before .u8-at .ensures, ← c .before .before .packet-sum .ensures, ← c .before .u16-at .ensures)
     (search (pass, rungs) depth 10)
@@ -75,7 +75,7 @@ returns-6 : tie.Need-returns-6
 unfolding readRefusal
 returns-6 c =
     let e = c .before .before .before .before .before in
-    let w = placed (e .before .before) in
+    let p = placed (e .before .before) in
     let h = headed e in
     rw (← c .before .before .before .before .u8-at .ensures, ← c .before .before .packet-sum .ensures, ← c .before .u16-at .ensures)
     (search (pass, rungs) depth 10)

@@ -18,27 +18,27 @@ placed c = sym (c .before .is-sum-word .ensures) ∙ not-false _ (c .if1 .left)
 
 returns : tie.Need-returns
 unfolding writeRefusal
-returns c = let w = sym (c .before .is-sum-word .ensures) ∙ not-true _ (c .if1 .taken) in search (fail, rungs) depth 10
+returns c = let p = sym (c .before .is-sum-word .ensures) ∙ not-true _ (c .if1 .taken) in search (fail, rungs) depth 10
 
 returns-2 : tie.Need-returns-2
 unfolding writeRefusal
-returns-2 c = let w = placed (c .before .before) in search (pass, rungs) depth 10
+returns-2 c = let p = placed (c .before .before) in search (pass, rungs) depth 10
 
 returns-3 : tie.Need-returns-3
 unfolding writeRefusal
-returns-3 c = let w = placed (c .before .before .before .before) in search (pass, rungs) depth 10
+returns-3 c = let p = placed (c .before .before .before .before) in search (pass, rungs) depth 10
 
 returns-4 : tie.Need-returns-4
 unfolding writeRefusal
-returns-4 c = let w = placed (c .before .before .before .before .before) in search (pass, rungs) depth 10
+returns-4 c = let p = placed (c .before .before .before .before .before) in search (pass, rungs) depth 10
 
 returns-5 : tie.Need-returns-5
 unfolding writeRefusal
-returns-5 c = let w = placed (c .before .before .before .before .before .before) in search (pass, rungs) depth 10
+returns-5 c = let p = placed (c .before .before .before .before .before .before) in search (pass, rungs) depth 10
 
 returns-6 : tie.Need-returns-6
 unfolding writeRefusal
-returns-6 c = let w = placed (c .before .before .before .before .before .before) in search (pass, rungs) depth 10
+returns-6 c = let p = placed (c .before .before .before .before .before .before) in search (pass, rungs) depth 10
 
 pub refusal-spec : {M : Type 1} → statement M
 refusal-spec =

@@ -93,7 +93,7 @@ holdingOnly p = record {
   window = holding (record { next = 0; marks = 0 }) p;
 }
 
-pub record Numbers : Type 0 where
+pub record Cases : Type 0 where
   -- count 0, place 53, all free bytes zero: sum 35 + 49,152 + 1,073 = 50,260
   pub sum-of-count-0 : wordAt (zeroPacket 0) 53 ≡ 50260
   pub sum-of-count-0-by-words : 35 + 49152 + 1073 ≡ 50260
