@@ -16,7 +16,6 @@ ghost use Rattle.packet.specs.Read.{readDue};
 ghost use Rattle.packet_writer.specs.Write.{writeRefusal, writeBytes};
 ghost use Rattle.pedr_check.specs.Refusal.{recordRefusal};
 ghost use Rattle.reorder_numbers.specs.Numbers.{Opens, Offers, Serves, Drains, Passes};
-ghost use Rattle.mola.specs.Layout.{StructLayouts};
 ghost use Rattle.mola.specs.Read.{noFields, asRead};
 
 // A packet's refusal number, or 0, and its fields, which are all zeros on a refusal.
@@ -179,8 +178,3 @@ pub extern "C" fn mola_pass(session: &mut Session) -> Answer
     *session = passed.session;
     passed.answer
 }
-
-// Where the fields of the structs lie that C and Rust share.
-pub fn struct_layouts()
-    ensures { λ _. ⌜ StructLayouts ⌝ }
-{}
