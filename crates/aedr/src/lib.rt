@@ -58,7 +58,7 @@ pub fn answer(piece: &[u8]) -> u8
     if piece.len() < HEADER {
         return 1;
     }
-    packet_check::packet_refusal(&piece[HEADER..], packet_check::PUBLISHED_SUM_WORD)
+    packet_check::packet_refusal(&piece[HEADER..], packet_layout::PUBLISHED_SUM_WORD)
 }
 
 // The answer for piece i of the input, from 0.

@@ -4,9 +4,9 @@ use Prim.Native.Nat.{ℕ, _+_, _*_, _%_}
 use mathlib.Core.List.{List, [], _∷_}
 use Rattle.octets.specs.Bytes.{natAt, put}
 
--- word w
+-- a word, by its number
 abbrev pub wordAt : List ℕ → ℕ → ℕ
-wordAt s w = natAt s (w * 2) 2
+wordAt s word = natAt s (word * 2) 2
 
 -- the words added; a last odd byte is the upper half of a word
 unfoldable pub wordSum : List ℕ → ℕ
@@ -14,10 +14,10 @@ wordSum [] = 0
 wordSum (a ∷ []) = a * 256
 wordSum (a ∷ b ∷ s) = a * 256 + b + wordSum s
 
--- the bytes with word w set to zero
+-- the bytes with a word set to zero
 unfoldable pub zeroed : ℕ → List ℕ → List ℕ
-zeroed w s = put s (w * 2) (0 ∷ 0 ∷ [])
+zeroed word s = put s (word * 2) (0 ∷ 0 ∷ [])
 
--- the packet sum that stands at word w (document 01's place): that word is taken as zero
+-- the packet sum that stands at a word (document 01's place): that word is taken as zero
 unfoldable pub packetSum : List ℕ → ℕ → ℕ
-packetSum s w = wordSum (zeroed w s) % 65536
+packetSum s word = wordSum (zeroed word s) % 65536

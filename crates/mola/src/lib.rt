@@ -2,6 +2,9 @@
 use packet::PacketAnswer;
 use packet::PacketArrays;
 use packet::PacketFields;
+use packet_layout::BINS;
+use packet_layout::READINGS;
+use packet_layout::TEMPERATURES;
 use packet_writer::PacketWritten;
 use reorder_c::Answer;
 use reorder_c::Count;
@@ -9,18 +12,17 @@ use reorder_session::Session;
 ghost use mathlib.Core.Path.{_≡_};
 ghost use Rattle.checksum.specs.Sum.{packetSum};
 ghost use Rattle.packet_check.specs.Refusal.{readRefusal};
-ghost use Rattle.packet.specs.Read.{readSaid};
+ghost use Rattle.packet.specs.Read.{readDue};
 ghost use Rattle.packet_writer.specs.Write.{writeRefusal, writeBytes};
 ghost use Rattle.pedr_check.specs.Refusal.{recordRefusal};
 ghost use Rattle.reorder_session.specs.Calls.{Offers, Serves, Drains, Passes};
 ghost use Rattle.reorder_offer.specs.Opening.{Opens};
 ghost use Rattle.reorder_c.specs.Answers.{heldAnswer, servedAnswer, passedAnswer, positionSaid, turnSaid, turnsSaid, Tells};
-ghost use Rattle.mola.specs.Layout.{StructLayouts};
-ghost use Rattle.mola.specs.Read.{noFields, inNumbers};
+ghost use Rattle.mola.specs.Read.{noFields, asRead};
 
 // A packet's refusal number, or 0, and its fields, which are all zeros on a refusal.
 #[repr(C)]
-pub struct PacketNumbers {
+pub struct PacketRead {
     pub refusal: u32,
     pub fields: PacketFields,
 }
@@ -58,16 +60,16 @@ fn no_fields() -> PacketFields
 
 // The refusal number of a packet whose sum stands at word sum_word, or 0, and its fields.
 #[no_mangle]
-pub extern "C" fn mola_read_packet(packet: &[u8], sum_word: usize) -> PacketNumbers
-    ensures { λ r. ⌜ r ≡ inNumbers (readSaid (now (packet .entry)) «sum_word») ⌝ }
+pub extern "C" fn mola_read_packet(packet: &[u8], sum_word: usize) -> PacketRead
+    ensures { λ r. ⌜ r ≡ asRead (readDue (now (packet .entry)) «sum_word») ⌝ }
 {
     let answer = packet::read_answer(packet, sum_word);
     match answer {
-        PacketAnswer::Refused(n) => PacketNumbers {
+        PacketAnswer::Refused(n) => PacketRead {
             refusal: n as u32,
             fields: no_fields(),
         },
-        PacketAnswer::Accepted(fields) => PacketNumbers { refusal: 0, fields },
+        PacketAnswer::Accepted(fields) => PacketRead { refusal: 0, fields },
     }
 }
 
@@ -83,9 +85,9 @@ pub extern "C" fn mola_packet_sum(bytes: &[u8], sum_word: usize) -> u16
 #[no_mangle]
 pub extern "C" fn mola_write_packet(
     fields: PacketFields,
-    temperatures: &[u8; 16],
-    readings: &[u8; 14],
-    bins: &[u8; 48],
+    temperatures: &[u8; TEMPERATURES],
+    readings: &[u8; READINGS],
+    bins: &[u8; BINS],
     carried: &[u8],
     sum_word: usize,
     out: &mut [u8],
@@ -181,8 +183,3 @@ pub extern "C" fn mola_pass(session: &mut Session) -> Answer
     *session = passed.session;
     passed.answer
 }
-
-// Where the fields of the structs lie that C and Rust share.
-pub fn struct_layouts()
-    ensures { λ _. ⌜ StructLayouts ⌝ }
-{}

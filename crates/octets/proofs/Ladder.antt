@@ -5,7 +5,7 @@ use mathlib.Core.Bool.{Bool, true, false, _&&_, false≢true}
 use native.Mathlib.Omega.{arith}
 use lib.Dec.{eqb, leb}
 use borrow.Author.Tests.{eq-eqb, ne-eqb, le-leb, lt-leb, leb-true}
-use Rattle.octets.specs.Refusal.{refuse_unless_else_, _then_, within, refused, answered, say, after, numberSaid}
+use Rattle.octets.specs.Refusal.{refuse_unless_else_, _then_, within, refused, answered, say, after, refusalIn}
 
 pub pass : (b : Bool) (n next r : ℕ) → b ≡ true → r ≡ next → r ≡ (refuse n unless b else next)
 unfolding refuse_unless_else_
@@ -99,7 +99,7 @@ pub after-done : {A : Type 0} (m : ℕ) (new old x : A) → m ≡ 0 → x ≡ ne
 unfolding after
 after-done m new old x e q = q ∙ ap (λ (k : ℕ). after k new old) (sym e)
 
-pub number-say : {A : Type 0} (n : ℕ) (a : A) → numberSaid (say n a) ≡ n
+pub number-say : {A : Type 0} (n : ℕ) (a : A) → refusalIn (say n a) ≡ n
 unfolding say
 number-say zero a = refl
 number-say (suc n) a = refl

@@ -35,7 +35,7 @@ unfoldable pub after : {A : Type 0} → ℕ → A → A → A
 after zero new old = new
 after (suc n) new old = old
 
--- the number that was said, 0 for an answer
-abbrev pub numberSaid : {A : Type 0} → Said A → ℕ
-numberSaid (refused n) = n
-numberSaid (answered a) = 0
+-- the refusal's number in what is said, 0 for an answer
+abbrev pub refusalIn : {A : Type 0} → Said A → ℕ
+refusalIn (refused n) = n
+refusalIn (answered a) = 0

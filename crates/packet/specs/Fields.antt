@@ -5,8 +5,8 @@ use lib.ListN.{replicate}
 use Rattle.octets.specs.Bytes.{part}
 use Rattle.layout.specs.Column.{value, octetsIn}
 use Rattle.packet_bins.specs.Bins.{binsOf}
-use Rattle.packet_check.specs.Layout as columns
-use Rattle.packet_check.specs.Header.{errorStatus, count}
+use Rattle.packet_layout.specs.Layout as columns
+use Rattle.packet_layout.specs.Header.{errorStatus, count}
 use Rattle.packet.specs.declared.PacketFields.{PacketFields}
 use Rattle.packet.specs.declared.PacketArrays.{PacketArrays}
 
@@ -40,7 +40,11 @@ arraysOf bs = record {
 
 -- the arrays of a refusal
 abbrev pub noArrays : PacketArrays
-noArrays = record { temperatures = replicate 16 0; readings = replicate 14 0; bins = replicate 48 0 }
+noArrays = record {
+  temperatures = replicate (columns.temperatures .items) 0;
+  readings = replicate (columns.readings .items) 0;
+  bins = replicate (columns.histogram .items) 0;
+}
 
 -- the carried bytes, the packet sum among them; as many of the 974 as there are
 abbrev pub carriedOf : List ℕ → List ℕ

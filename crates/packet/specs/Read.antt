@@ -10,13 +10,13 @@ use Rattle.packet.specs.declared.PacketAnswer.{PacketAnswer}
 use Rattle.packet.specs.declared.PacketAnswer.the-variants.{Refused, Accepted}
 
 -- the number, or the fields, that each case of the answer stands for
-abbrev pub said : PacketAnswer → Said PacketFields
-said (Refused n) = refused n
-said (Accepted f) = answered f
+abbrev pub packetSaid : PacketAnswer → Said PacketFields
+packetSaid (Refused n) = refused n
+packetSaid (Accepted f) = answered f
 
--- what the reader says of the bytes, and the arrays beside it
-abbrev pub readSaid : List ℕ → ℕ → Said PacketFields
-readSaid bs w = say (readRefusal bs w) (fieldsOf bs)
+-- what is due of the reader, and the arrays beside it
+abbrev pub readDue : List ℕ → ℕ → Said PacketFields
+readDue bs word = say (readRefusal bs word) (fieldsOf bs)
 
 abbrev pub readArrays : List ℕ → ℕ → PacketArrays
-readArrays bs w = after (readRefusal bs w) (arraysOf bs) noArrays
+readArrays bs word = after (readRefusal bs word) (arraysOf bs) noArrays

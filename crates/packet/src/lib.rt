@@ -1,8 +1,17 @@
 // The 1,080-byte science packet: its fields and the reader.
+use packet_layout::BINS;
+use packet_layout::CARRIED_AT;
+use packet_layout::HSTART_AT;
+use packet_layout::PACKET_SIZE;
+use packet_layout::READINGS;
+use packet_layout::READINGS_AT;
+use packet_layout::STATUS_AT;
+use packet_layout::TEMPERATURES;
+use packet_layout::TEMPERATURES_AT;
 ghost use mathlib.Core.Path.{_≡_};
-ghost use Rattle.octets.specs.Refusal.{numberSaid};
+ghost use Rattle.octets.specs.Refusal.{refusalIn};
 ghost use Rattle.packet.specs.Fields.{fieldsOf, arraysOf, carriedOf};
-ghost use Rattle.packet.specs.Read.{said, readSaid, readArrays};
+ghost use Rattle.packet.specs.Read.{packetSaid, readDue, readArrays};
 
 // The free fields that are single numbers, laid out as C does.
 #[repr(C)]
@@ -26,9 +35,9 @@ pub struct PacketFields {
 
 // The free fields that are arrays; the bins in bin order.
 pub struct PacketArrays {
-    pub temperatures: [u8; 16],
-    pub readings: [u8; 14],
-    pub bins: [u8; 48],
+    pub temperatures: [u8; TEMPERATURES],
+    pub readings: [u8; READINGS],
+    pub bins: [u8; BINS],
 }
 
 // A refusal with its number, or the fields of an accepted packet.
@@ -51,7 +60,7 @@ fn read_fields(bytes: &[u8]) -> PacketFields
         count: octets::u16_at(bytes, 2) % 16384,
         coarse_time: octets::u32_at(bytes, 6),
         fine_time: octets::u8_at(bytes, 10),
-        status_register: octets::u8_at(bytes, 42),
+        status_register: octets::u8_at(bytes, STATUS_AT),
         software_version: octets::u8_at(bytes, 43),
         ram_flag_word: octets::u16_at(bytes, 44),
         status_word_1: octets::u16_at(bytes, 46),
@@ -61,17 +70,17 @@ fn read_fields(bytes: &[u8]) -> PacketFields
         command_errors: octets::u8_at(bytes, 53),
         transmitter_threshold: octets::u8_at(bytes, 54),
         tracking_status: octets::u8_at(bytes, 55),
-        hstart: octets::u16_at(bytes, 104),
+        hstart: octets::u16_at(bytes, HSTART_AT),
     }
 }
 
 fn read_arrays(bytes: &[u8]) -> PacketArrays
     ensures { λ r. ⌜ r ≡ arraysOf (now (bytes .entry)) ⌝ }
 {
-    let mut temperatures = [0u8; 16];
-    octets::read_into(bytes, 12, &mut temperatures);
-    let mut readings = [0u8; 14];
-    octets::read_into(bytes, 28, &mut readings);
+    let mut temperatures = [0u8; TEMPERATURES];
+    octets::read_into(bytes, TEMPERATURES_AT, &mut temperatures);
+    let mut readings = [0u8; READINGS];
+    octets::read_into(bytes, READINGS_AT, &mut readings);
     PacketArrays {
         temperatures,
         readings,
@@ -81,7 +90,7 @@ fn read_arrays(bytes: &[u8]) -> PacketArrays
 
 // Reads the single fields of a packet whose sum stands at word sum_word. Any bytes, any word.
 pub fn read_answer(bytes: &[u8], sum_word: usize) -> PacketAnswer
-    ensures { λ r. ⌜ said r ≡ readSaid (now (bytes .entry)) «sum_word» ⌝ }
+    ensures { λ r. ⌜ packetSaid r ≡ readDue (now (bytes .entry)) «sum_word» ⌝ }
 {
     let n = packet_check::packet_refusal(bytes, sum_word);
     if n != 0 {
@@ -92,16 +101,16 @@ pub fn read_answer(bytes: &[u8], sum_word: usize) -> PacketAnswer
 
 // Reads a packet, the arrays too.
 pub fn read_packet(bytes: &[u8], sum_word: usize) -> PacketRead
-    ensures { λ r. ⌜ (said (r .answer) ≡ readSaid (now (bytes .entry)) «sum_word») × (r .arrays ≡ readArrays (now (bytes .entry)) «sum_word») ⌝ }
+    ensures { λ r. ⌜ (packetSaid (r .answer) ≡ readDue (now (bytes .entry)) «sum_word») × (r .arrays ≡ readArrays (now (bytes .entry)) «sum_word») ⌝ }
 {
     let answer = read_answer(bytes, sum_word);
     let PacketAnswer::Accepted(_) = answer else {
         return PacketRead {
             answer,
             arrays: PacketArrays {
-                temperatures: [0; 16],
-                readings: [0; 14],
-                bins: [0; 48],
+                temperatures: [0; TEMPERATURES],
+                readings: [0; READINGS],
+                bins: [0; BINS],
             },
         };
     };
@@ -113,7 +122,7 @@ pub fn read_packet(bytes: &[u8], sum_word: usize) -> PacketRead
 
 // The refusal's number, or 0 for an accepted packet.
 pub fn refusal_number(answer: PacketAnswer) -> u8
-    ensures { λ r. ⌜ r ≡ numberSaid (said answer) ⌝ }
+    ensures { λ r. ⌜ r ≡ refusalIn (packetSaid answer) ⌝ }
 {
     match answer {
         PacketAnswer::Refused(n) => n,
@@ -126,11 +135,11 @@ pub fn carried(bytes: &[u8]) -> &[u8]
     ensures { λ r. ⌜ now r ≡ carriedOf (now (bytes .entry)) ⌝ }
 {
     let n = bytes.len();
-    if n < 106 {
+    if n < CARRIED_AT {
         return &bytes[n..];
     }
-    if n < 1080 {
-        return &bytes[106..];
+    if n < PACKET_SIZE {
+        return &bytes[CARRIED_AT..];
     }
-    &bytes[106..1080]
+    &bytes[CARRIED_AT..PACKET_SIZE]
 }

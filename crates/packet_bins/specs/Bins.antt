@@ -5,14 +5,15 @@ use mathlib.Core.List.{List}
 use lib.Dec.{eqb}
 use lib.ListN.{getD}
 use Rattle.octets.specs.Table.{table}
+use Rattle.packet_layout.specs.Layout.{histogram}
 
 -- bytes are swapped in pairs: bin j is packet byte 56 + j + 1 for even j and 56 + j - 1 for odd j
 abbrev pub binByte : ℕ → ℕ
-binByte j = cond (eqb (j % 2) 0) (56 + j + 1) (56 + j - 1)
+binByte j = cond (eqb (j % 2) 0) (histogram .start + j + 1) (histogram .start + j - 1)
 
 -- the 48 bins, in bin order
 unfoldable pub binsOf : List ℕ → List ℕ
-binsOf bs = table 48 (λ j. getD bs (binByte j) 0)
+binsOf bs = table (histogram .items) (λ j. getD bs (binByte j) 0)
 
 -- the first bin's number: HSTART plus 0xFFFE, modulo 65,536, then with its lowest bit cleared
 unfoldable pub firstBin : ℕ → ℕ
@@ -23,4 +24,4 @@ abbrev pub binStart : ℕ → ℕ → ℕ
 binStart h j = (firstBin h + j) * 1536
 
 unfoldable pub binStarts : ℕ → List ℕ
-binStarts h = table 48 (binStart h)
+binStarts h = table (histogram .items) (binStart h)

@@ -4,29 +4,31 @@ use mathlib.Core.Path.{_≡_, sym}
 use mathlib.Core.List.{List}
 use lib.ListN.{length}
 use borrow.Author.Tests.{eqb-true}
-use Rattle.octets.proofs.Ladder.{passed, pass-eq, pass-within, then-pass, then-zero, within-true}
+use Rattle.octets.proofs.Ladder.{passed, pass-eq, pass-within, then-pass, then-zero}
 use Rattle.layout.specs.Column.{value}
 use Rattle.checksum.specs.Sum.{packetSum, wordAt}
-use Rattle.packet_check.specs.Layout.{packetLength, packetType}
-use Rattle.packet_check.specs.Header.{version, spare, flag, instrument, segmentation, headerRefusal}
+use Rattle.packet_layout.specs.Layout.{packetSize, packetLength, packetType}
+use Rattle.packet_layout.specs.Header.{version, spare, flag, instrument, segmentation, fixedInstrument, fixedSegmentation, fixedLength}
+use Rattle.packet_layout.proofs.SumWord.{sum-word-range}
+use Rattle.packet_check.specs.Header.{headerRefusal}
 use Rattle.packet_check.specs.Refusal.{readRefusal}
 
-pub record Accepted (bs : List ℕ) (w : ℕ) : Type 0 where
-  pub size : length bs ≡ 1080
-  pub from : 53 ≤ w
-  pub to : w ≤ 539
+pub record Accepted (bs : List ℕ) (word : ℕ) : Type 0 where
+  pub size : length bs ≡ packetSize
+  pub from : 53 ≤ word
+  pub to : word ≤ 539
   pub version-is : version bs ≡ 0
   pub spare-is : spare bs ≡ 0
   pub flag-is : flag bs ≡ 0
-  pub instrument-is : instrument bs ≡ 35
-  pub segmentation-is : segmentation bs ≡ 3
-  pub length-is : value bs packetLength ≡ 1073
+  pub instrument-is : instrument bs ≡ fixedInstrument
+  pub segmentation-is : segmentation bs ≡ fixedSegmentation
+  pub length-is : value bs packetLength ≡ fixedLength
   pub type-is : value bs packetType ≡ 0
-  pub sum-is : packetSum bs w ≡ wordAt bs w
+  pub sum-is : packetSum bs word ≡ wordAt bs word
 
-pub accepted : (bs : List ℕ) (w : ℕ) → readRefusal bs w ≡ 0 → Accepted bs w
+pub accepted : (bs : List ℕ) (word : ℕ) → readRefusal bs word ≡ 0 → Accepted bs word
 unfolding readRefusal headerRefusal
-accepted bs w e =
+accepted bs word e =
     let c1 = passed _ 0 _ e in
     let c2 = passed _ 1 _ (c1 .1) in
     let h = then-zero _ _ (c2 .1) in
@@ -38,7 +40,7 @@ accepted bs w e =
     let c8 = passed _ 7 _ (c7 .1) in
     let c9 = passed _ 8 _ (h .1) in
     let c10 = passed _ 9 _ (c9 .1) in
-    let r = within-true 53 539 w (c2 .0) in
+    let r = sum-word-range word (c2 .0) in
     record {
       size = eqb-true _ _ (c1 .0);
       from = r .0;
@@ -53,10 +55,10 @@ accepted bs w e =
       sum-is = eqb-true _ _ (c10 .0);
     }
 
-header-passed : (bs : List ℕ) (w : ℕ) → Accepted bs w → 0 ≡ headerRefusal bs
+header-passed : (bs : List ℕ) (word : ℕ) → Accepted bs word → 0 ≡ headerRefusal bs
 unfolding headerRefusal
-header-passed bs w a = search pass-eq depth 8
+header-passed bs word a = search pass-eq depth 8
 
-pub accepts : (bs : List ℕ) (w : ℕ) → Accepted bs w → 0 ≡ readRefusal bs w
+pub accepts : (bs : List ℕ) (word : ℕ) → Accepted bs word → 0 ≡ readRefusal bs word
 unfolding readRefusal
-accepts bs w a = let h = sym (header-passed bs w a) in search (pass-eq, pass-within, then-pass) depth 8
+accepts bs word a = let h = sym (header-passed bs word a) in search (pass-eq, pass-within, then-pass) depth 8

@@ -1,10 +1,11 @@
 // The check of the science packet: refusals 1 to 10, without its fields.
+use packet_layout::INSTRUMENT;
+use packet_layout::LENGTH;
+use packet_layout::PACKET_SIZE;
+use packet_layout::SEGMENTATION;
 ghost use mathlib.Core.Path.{_≡_};
 ghost use Rattle.packet_check.specs.Header.{headerRefusal};
 ghost use Rattle.packet_check.specs.Refusal.{readRefusal};
-
-// The published place of the science packet's sum, a word number (docs/LAYOUTS.md has the working).
-pub const PUBLISHED_SUM_WORD: usize = 70;
 
 // Refusals 3 to 8, or 0.
 fn header_refusal(bytes: &[u8]) -> u8
@@ -20,13 +21,13 @@ fn header_refusal(bytes: &[u8]) -> u8
     if (id >> 11) % 2 != 0 {
         return 5;
     }
-    if id % 256 != 35 {
+    if id % 256 != INSTRUMENT {
         return 6;
     }
-    if (octets::u16_at(bytes, 2) >> 14) % 4 != 3 {
+    if (octets::u16_at(bytes, 2) >> 14) % 4 != SEGMENTATION {
         return 7;
     }
-    if octets::u16_at(bytes, 4) != 1073 {
+    if octets::u16_at(bytes, 4) != LENGTH {
         return 8;
     }
     0
@@ -36,13 +37,10 @@ fn header_refusal(bytes: &[u8]) -> u8
 pub fn packet_refusal(bytes: &[u8], sum_word: usize) -> u8
     ensures { λ r. ⌜ r ≡ readRefusal (now (bytes .entry)) «sum_word» ⌝ }
 {
-    if bytes.len() != 1080 {
+    if bytes.len() != PACKET_SIZE {
         return 1;
     }
-    if sum_word < 53 {
-        return 2;
-    }
-    if 539 < sum_word {
+    if !packet_layout::is_sum_word(sum_word) {
         return 2;
     }
     let header = header_refusal(bytes);

@@ -10,7 +10,7 @@ use Rattle.octets.specs.Bytes.{octetsOf, put}
 use Rattle.octets.proofs.Store.{put-behind}
 use Rattle.layout.specs.Column.{tiles, cut, join}
 use Rattle.layout.proofs.Cover.{Fit, done, _▹_, cut-join, join-append, join-length}
-use Rattle.packet_check.specs.Layout.{packetColumns}
+use Rattle.packet_layout.specs.Layout.{packetColumns}
 use Rattle.packet.specs.declared.PacketFields.{PacketFields}
 use Rattle.packet.specs.declared.PacketArrays.{PacketArrays}
 use Rattle.packet_writer.specs.Write.{headParts, statusParts, histogramOf, partsOf, unsummed}

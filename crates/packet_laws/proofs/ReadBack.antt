@@ -14,7 +14,7 @@ use Rattle.checksum.specs.Sum.{packetSum, wordAt, wordSum, zeroed}
 use Rattle.checksum.proofs.Sum.{sum-lt}
 use Rattle.packet_bins.specs.Bins.{binByte, binsOf}
 use Rattle.packet_bins.proofs.Swap.{bins-length, bins-at, bin-byte-range, bin-byte-twice}
-use Rattle.packet_check.specs.Layout as columns
+use Rattle.packet_layout.specs.Layout as columns
 use Rattle.packet_check.specs.Refusal.{readRefusal}
 use Rattle.packet_check.proofs.Accept.{Accepted, accepts}
 use Rattle.packet.specs.Fields.{fieldsOf, arraysOf, noArrays}
@@ -88,8 +88,8 @@ module _ (f : PacketFields) (a : PacketArrays) (y bs : List ℕ) (t : Typed f a)
       let readings = octets-part bs 28 14 (omega arith) ∙ col 7 in
       λ i. record { temperatures = temperatures i; readings = readings i; bins = bins-are i }
 
-  is-accepted : (w : ℕ) → 53 ≤ w → w ≤ 539 → packetSum bs w ≡ wordAt bs w → Accepted bs w
-  is-accepted w from to sum = record {
+  is-accepted : (word : ℕ) → 53 ≤ word → word ≤ 539 → packetSum bs word ≡ wordAt bs word → Accepted bs word
+  is-accepted word from to sum = record {
     size = size;
     from = from;
     to = to;
@@ -104,35 +104,35 @@ module _ (f : PacketFields) (a : PacketArrays) (y bs : List ℕ) (t : Typed f a)
   }
 
 -- a sum stored at its word changes nothing of the sum, and is read there
-pub sum-stored : (u : List ℕ) (w n : ℕ) → w * 2 + 2 ≤ length u → packetSum (put u (w * 2) (octetsOf 2 n)) w ≡ packetSum u w
+pub sum-stored : (u : List ℕ) (word n : ℕ) → word * 2 + 2 ≤ length u → packetSum (put u (word * 2) (octetsOf 2 n)) word ≡ packetSum u word
 unfolding packetSum zeroed
-sum-stored u w n h = ap (λ (s : List ℕ). wordSum s % 65536) (put-over u (octetsOf 2 n) (0 ∷ 0 ∷ []) (w * 2) h refl)
+sum-stored u word n h = ap (λ (s : List ℕ). wordSum s % 65536) (put-over u (octetsOf 2 n) (0 ∷ 0 ∷ []) (word * 2) h refl)
 
-word-stored : (u : List ℕ) (w n : ℕ) → w * 2 + 2 ≤ length u → n < 65536 → wordAt (put u (w * 2) (octetsOf 2 n)) w ≡ n
-word-stored u w n h l = read-write 2 (put u (w * 2) (octetsOf 2 n)) (w * 2) n (put-there u (octetsOf 2 n) (w * 2) h) l
+word-stored : (u : List ℕ) (word n : ℕ) → word * 2 + 2 ≤ length u → n < 65536 → wordAt (put u (word * 2) (octetsOf 2 n)) word ≡ n
+word-stored u word n h l = read-write 2 (put u (word * 2) (octetsOf 2 n)) (word * 2) n (put-there u (octetsOf 2 n) (word * 2) h) l
 
 pub read-back : ReadsBack
 unfolding packetOf
-read-back f a x w out t ok =
-    let m : Writable f x w out = writable f x w out ok in
-    let from : 53 ≤ w = m .from in
-    let to : w ≤ 539 = m .to in
+read-back f a x word out t ok =
+    let m : Writable f x word out = writable f x word out ok in
+    let from : 53 ≤ word = m .from in
+    let to : word ≤ 539 = m .to in
     let u : List ℕ = unsummed f a x in
-    let s : ℕ = packetSum u w in
+    let s : ℕ = packetSum u word in
     let v : List ℕ = octetsOf 2 s in
-    let y : List ℕ = put x (w * 2 - 106) v in
-    let bs : List ℕ = put u (w * 2) v in
+    let y : List ℕ = put x (word * 2 - 106) v in
+    let bs : List ℕ = put u (word * 2) v in
     let n : length u ≡ 1080 = unsummed-length f a t x (m .carries) in
-    let ly : length y ≡ 974 = put-length x (w * 2 - 106) v ∙ m .carries in
-    let is : bs ≡ unsummed f a y = put-carried f a t x v (w * 2) (omega arith) in
-    let size : length bs ≡ 1080 = put-length u (w * 2) v ∙ n in
+    let ly : length y ≡ 974 = put-length x (word * 2 - 106) v ∙ m .carries in
+    let is : bs ≡ unsummed f a y = put-carried f a t x v (word * 2) (omega arith) in
+    let size : length bs ≡ 1080 = put-length u (word * 2) v ∙ n in
     let cuts : cut bs columns.packetColumns ≡ partsOf f a y =
     ap (λ (z : List ℕ). cut z columns.packetColumns) is ∙ columns-are f a t y ly in
-    let sum : packetSum bs w ≡ s = sum-stored u w s (omega arith) in
-    let word : wordAt bs w ≡ s = word-stored u w s (omega arith) (sum-lt u w) in
-    let z : 0 ≡ readRefusal bs w =
-    accepts bs w (is-accepted f a y bs t (m .count) (m .error) size cuts w from to (sum ∙ sym word)) in (
+    let sum : packetSum bs word ≡ s = sum-stored u word s (omega arith) in
+    let stored : wordAt bs word ≡ s = word-stored u word s (omega arith) (sum-lt u word) in
+    let z : 0 ≡ readRefusal bs word =
+    accepts bs word (is-accepted f a y bs t (m .count) (m .error) size cuts word from to (sum ∙ sym stored)) in (
       sym (say-answered _ (fieldsOf bs) f (sym z) (sym (fields-are f a y bs t (m .count) (m .error) size cuts))),
       sym (after-done _ (arraysOf bs) noArrays a (sym z) (sym (arrays-are f a y bs t (m .count) (m .error) size cuts))),
-      ap (λ (ps : List (List ℕ)). getD ps 20 []) cuts ∙ ap (λ (k : ℕ). put x (w * 2 - 106) (octetsOf 2 k)) (sym sum),
+      ap (λ (ps : List (List ℕ)). getD ps 20 []) cuts ∙ ap (λ (k : ℕ). put x (word * 2 - 106) (octetsOf 2 k)) (sym sum),
     )

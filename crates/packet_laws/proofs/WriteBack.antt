@@ -18,7 +18,7 @@ use Rattle.layout.proofs.Cover.{join-cut}
 use Rattle.checksum.specs.Sum.{packetSum}
 use Rattle.packet_bins.specs.Bins.{binByte, binsOf}
 use Rattle.packet_bins.proofs.Swap.{bins-at, bin-byte-range, bin-byte-twice}
-use Rattle.packet_check.specs.Layout as columns
+use Rattle.packet_layout.specs.Layout as columns
 use Rattle.packet_check.specs.Refusal.{readRefusal}
 use Rattle.packet_check.proofs.Accept.{Accepted, accepted}
 use Rattle.packet.specs.Fields.{fieldsOf, arraysOf, carriedOf}
@@ -46,9 +46,9 @@ id-whole n v s g i l =
 sequence-whole : (n : ℕ) → n / 16384 % 4 ≡ 3 → n < 65536 → 49152 + n % 16384 ≡ n
 sequence-whole n s l = omega arith
 
-module _ (bs : List ℕ) (w : ℕ) (o : Octets bs) (z : readRefusal bs w ≡ 0) where
-  a : Accepted bs w
-  a = accepted bs w z
+module _ (bs : List ℕ) (word : ℕ) (o : Octets bs) (z : readRefusal bs word ≡ 0) where
+  a : Accepted bs word
+  a = accepted bs word z
 
   size : length bs ≡ 1080
   size = a .size
@@ -109,39 +109,39 @@ module _ (bs : List ℕ) (w : ℕ) (o : Octets bs) (z : readRefusal bs w ≡ 0) 
   unfolding unsummed
   unsummed-is = ap join parts-are ∙ join-cut bs columns.packetColumns 0 1080 packet-tiles (sym size)
 
-  packet-is : packetOf (fieldsOf bs) (arraysOf bs) (carriedOf bs) w ≡ bs
+  packet-is : packetOf (fieldsOf bs) (arraysOf bs) (carriedOf bs) word ≡ bs
   unfolding packetOf
   packet-is =
-      let to : w ≤ 539 = a .to in
-      ap (λ (u : List ℕ). put u (w * 2) (octetsOf 2 (packetSum u w))) unsummed-is
-      ∙ ap (put bs (w * 2)) (column-of (w * 2) 2 (packetSum bs w) (omega arith) (a .sum-is))
-      ∙ put-same bs (w * 2) 2 (rw size (omega arith))
+      let to : word ≤ 539 = a .to in
+      ap (λ (u : List ℕ). put u (word * 2) (octetsOf 2 (packetSum u word))) unsummed-is
+      ∙ ap (put bs (word * 2)) (column-of (word * 2) 2 (packetSum bs word) (omega arith) (a .sum-is))
+      ∙ put-same bs (word * 2) 2 (rw size (omega arith))
 
   -- of the writer's refusals only 18 is left
-  pub write-rest : (out : List ℕ) → (refuse 18 unless eqb (length out) 1080 else 0) ≡ writeRefusal (fieldsOf bs) (carriedOf bs) w out
+  pub write-rest : (out : List ℕ) → (refuse 18 unless eqb (length out) 1080 else 0) ≡ writeRefusal (fieldsOf bs) (carriedOf bs) word out
   unfolding writeRefusal fieldsOf
   write-rest out =
-      let from : 53 ≤ w = a .from in
-      let to : w ≤ 539 = a .to in
+      let from : 53 ≤ word = a .from in
+      let to : word ≤ 539 = a .to in
       let count : natAt bs 2 2 % 16384 ≤ 16383 = omega arith in
       let error : natAt bs 0 2 / 256 % 8 ≤ 7 = omega arith in
       let l : length (carriedOf bs) ≡ 974 = part-length bs 106 974 (rw size (omega arith)) in
-      pass-within 53 539 w 2 _ _ from to (pass-le _ 16383 17 _ _ count (pass-le _ 7 17 _ _ error (pass-eq _ 974 17 _ _ l refl)))
+      pass-within 53 539 word 2 _ _ from to (pass-le _ 16383 17 _ _ count (pass-le _ 7 17 _ _ error (pass-eq _ 974 17 _ _ l refl)))
 
 pub write-back : WritesBack
-write-back bs w out o z e = (sym (pass-eq (length out) 1080 18 0 0 e refl ∙ write-rest bs w o z out), packet-is bs w o z)
+write-back bs word out o z e = (sym (pass-eq (length out) 1080 18 0 0 e refl ∙ write-rest bs word o z out), packet-is bs word o z)
 
 -- reading and writing again, by the two calls: the reader refuses
-pub copy-refused : (bs : List ℕ) (w : ℕ) (out : List ℕ) (r : ℕ) → r ≡ readRefusal bs w → (r ≡ 0 → ⊥) → r ≡ copyRefusal bs w out
+pub copy-refused : (bs : List ℕ) (word : ℕ) (out : List ℕ) (r : ℕ) → r ≡ readRefusal bs word → (r ≡ 0 → ⊥) → r ≡ copyRefusal bs word out
 unfolding copyRefusal
-copy-refused bs w out r e ne = then-fail (readRefusal bs w) (refuse 18 unless eqb (length out) 1080 else 0) r e ne
+copy-refused bs word out r e ne = then-fail (readRefusal bs word) (refuse 18 unless eqb (length out) 1080 else 0) r e ne
 
 -- or the writer is given what was read
-module _ (bs : List ℕ) (w : ℕ) (out : List ℕ) (o : Octets bs) (z : readRefusal bs w ≡ 0) (f : PacketFields) (b : PacketArrays) (x : List ℕ)
+module _ (bs : List ℕ) (word : ℕ) (out : List ℕ) (o : Octets bs) (z : readRefusal bs word ≡ 0) (f : PacketFields) (b : PacketArrays) (x : List ℕ)
     (ef : f ≡ fieldsOf bs) (eb : b ≡ arraysOf bs) (ex : x ≡ carriedOf bs) where
-  pub copy-number : writeRefusal f x w out ≡ copyRefusal bs w out
+  pub copy-number : writeRefusal f x word out ≡ copyRefusal bs word out
   unfolding copyRefusal
-  copy-number = (λ i. writeRefusal (ef i) (ex i) w out) ∙ sym (write-rest bs w o z out) ∙ then-pass (readRefusal bs w) _ _ z refl
+  copy-number = (λ i. writeRefusal (ef i) (ex i) word out) ∙ sym (write-rest bs word o z out) ∙ then-pass (readRefusal bs word) _ _ z refl
 
-  pub copy-bytes : after (writeRefusal f x w out) (packetOf f b x w) out ≡ after (copyRefusal bs w out) bs out
-  copy-bytes = λ i. after (copy-number i) (((λ j. packetOf (ef j) (eb j) (ex j) w) ∙ packet-is bs w o z) i) out
+  pub copy-bytes : after (writeRefusal f x word out) (packetOf f b x word) out ≡ after (copyRefusal bs word out) bs out
+  copy-bytes = λ i. after (copy-number i) (((λ j. packetOf (ef j) (eb j) (ex j) word) ∙ packet-is bs word o z) i) out

@@ -1,18 +1,16 @@
-// The packet's theorems: its table covers every byte, and its two round trips, of the definitions and of the code.
+// The packet's two round trips, of the definitions and of the code.
 use packet::PacketAnswer;
 use packet::PacketArrays;
 use packet::PacketFields;
 use packet::PacketRead;
+use packet_layout::BINS;
+use packet_layout::READINGS;
+use packet_layout::TEMPERATURES;
 use packet_writer::PacketWritten;
 ghost use mathlib.Core.Path.{_≡_};
-ghost use Rattle.packet.specs.Read.{said};
-ghost use Rattle.packet_writer.specs.Write.{saidWritten, writeBytes};
-ghost use Rattle.packet_laws.specs.RoundTrip.{LayoutCovers, ReadsBack, WritesBack, copySaid, copyBytes, echoSaid, echoArrays};
-
-// Each byte of the packet stands in exactly one column of its table.
-pub fn layout_covers()
-    ensures { λ _. ⌜ LayoutCovers ⌝ }
-{}
+ghost use Rattle.packet.specs.Read.{packetSaid};
+ghost use Rattle.packet_writer.specs.Write.{writtenSaid, writeBytes};
+ghost use Rattle.packet_laws.specs.RoundTrip.{ReadsBack, WritesBack, copyDue, copyBytes, echoDue, echoArrays};
 
 // Reading what was written gives the fields back.
 pub fn reads_back()
@@ -26,7 +24,7 @@ pub fn writes_back()
 
 // Reads a packet and writes it again: an accepted packet's own bytes stand in the output.
 pub fn copy_packet(bytes: &[u8], sum_word: usize, out: &mut [u8]) -> PacketWritten
-    ensures { λ r. ⌜ (saidWritten r ≡ copySaid (now (bytes .entry)) «sum_word» (now (out .entry)))
+    ensures { λ r. ⌜ (writtenSaid r ≡ copyDue (now (bytes .entry)) «sum_word» (now (out .entry)))
         × (now (out .exit) ≡ copyBytes (now (bytes .entry)) «sum_word» (now (out .entry))) ⌝ }
 {
     let read = packet::read_packet(bytes, sum_word);
@@ -47,7 +45,7 @@ pub fn write_and_read(
     sum_word: usize,
     out: &mut [u8],
 ) -> PacketRead
-    ensures { λ r. ⌜ (said (r .answer) ≡ echoSaid fields (now (carried .entry)) «sum_word» (now (out .entry)))
+    ensures { λ r. ⌜ (packetSaid (r .answer) ≡ echoDue fields (now (carried .entry)) «sum_word» (now (out .entry)))
         × (r .arrays ≡ echoArrays fields arrays (now (carried .entry)) «sum_word» (now (out .entry)))
         × (now (out .exit) ≡ writeBytes fields arrays (now (carried .entry)) «sum_word» (now (out .entry))) ⌝ }
 {
@@ -56,9 +54,9 @@ pub fn write_and_read(
         return PacketRead {
             answer: PacketAnswer::Refused(n),
             arrays: PacketArrays {
-                temperatures: [0; 16],
-                readings: [0; 14],
-                bins: [0; 48],
+                temperatures: [0; TEMPERATURES],
+                readings: [0; READINGS],
+                bins: [0; BINS],
             },
         };
     }

@@ -14,7 +14,12 @@ fn run(table: Table, i: usize) {
         Table::Reads => reads::read(i, row),
         Table::Checks => reads::read_at_three_words(i, row),
         Table::Words => {
-            reads::read_at(i, 2 * tables::DUE, 70, row as usize);
+            reads::read_at(
+                i,
+                2 * tables::DUE,
+                packet_layout::PUBLISHED_SUM_WORD,
+                row as usize,
+            );
             writes::write_at(i, 2 * tables::DUE, row as usize);
         }
         Table::Writes => writes::write(i, row),

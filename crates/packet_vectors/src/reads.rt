@@ -5,6 +5,10 @@ use crate::tables;
 use packet::PacketAnswer;
 use packet::PacketArrays;
 use packet::PacketFields;
+use packet_layout::FIRST_SUM_WORD;
+use packet_layout::LAST_SUM_WORD;
+use packet_layout::PACKET_SIZE;
+use packet_layout::PUBLISHED_SUM_WORD;
 
 pub(crate) fn legend() {
     show::text(
@@ -61,7 +65,7 @@ fn show_arrays(row: u64, arrays: PacketArrays) {
 
 // Whether a packet, read and written again, gives its own bytes.
 fn comes_back(bytes: &[u8], word: usize) -> bool {
-    let mut again = [0; 1080];
+    let mut again = [0; PACKET_SIZE];
     packet_laws::copy_packet(bytes, word, &mut again);
     show::same(bytes, &again)
 }
@@ -100,7 +104,7 @@ fn judge_row(row: u64, stored: usize, told: usize, bytes: &mut [u8]) {
 // Row i with its sum stored at one word, where the reader is told that word or another.
 pub(crate) fn read_at(i: usize, row: u64, stored: usize, told: usize) {
     let mut room = [0; 2160];
-    let length = build::given(row, tables::SIZE, 1080) as usize;
+    let length = build::given(row, tables::SIZE, PACKET_SIZE as u64) as usize;
     show::head(b"read", i, told);
     show::text(b" len");
     show::entry_size(length);
@@ -111,15 +115,15 @@ pub(crate) fn read_at(i: usize, row: u64, stored: usize, told: usize) {
 }
 
 pub(crate) fn read(i: usize, row: u64) {
-    let stored = build::given(row, tables::AT, 70);
+    let stored = build::given(row, tables::AT, PUBLISHED_SUM_WORD as u64);
     let told = build::given(row, tables::WORD, stored);
     read_at(i, row, stored as usize, told as usize);
 }
 
 pub(crate) fn read_at_three_words(i: usize, row: u64) {
-    read_at(i, row, 53, 53);
-    read_at(i, row, 70, 70);
-    read_at(i, row, 539, 539);
+    read_at(i, row, FIRST_SUM_WORD, FIRST_SUM_WORD);
+    read_at(i, row, PUBLISHED_SUM_WORD, PUBLISHED_SUM_WORD);
+    read_at(i, row, LAST_SUM_WORD, LAST_SUM_WORD);
 }
 
 // The first bin of an HSTART, and where bins 0, 1 and 47 start.

@@ -7,6 +7,10 @@ use packet::PacketAnswer;
 use packet::PacketArrays;
 use packet::PacketFields;
 use packet::PacketRead;
+use packet_layout::CARRIED_AT;
+use packet_layout::CARRIED_SIZE;
+use packet_layout::PACKET_SIZE;
+use packet_layout::PUBLISHED_SUM_WORD;
 use packet_writer::PacketWritten;
 
 fn refused(n: u8, row: u64) {
@@ -39,7 +43,7 @@ fn judge(
 
 // What the library reads of a packet that is filled as the row's and has no changes.
 fn source(row: u64) -> PacketRead {
-    let mut bytes = [0; 1080];
+    let mut bytes = [0; PACKET_SIZE];
     build::packet_of(row - row % tables::FILL, 60, &mut bytes);
     packet::read_packet(&bytes, 60)
 }
@@ -65,9 +69,9 @@ fn write_fields(row: u64, word: usize, carried: &[u8], out: &mut [u8]) {
 fn write_carried(row: u64, word: usize, out: &mut [u8]) {
     let mut filled = [0; 2160];
     build::packet_of(row - row % tables::FILL, 0, &mut filled);
-    let end = 106 + build::given(row, tables::CARRIED, 974) as usize;
+    let end = CARRIED_AT + build::given(row, tables::CARRIED, CARRIED_SIZE as u64) as usize;
     if end <= 2160 {
-        write_fields(row, word, &filled[106..end], out);
+        write_fields(row, word, &filled[CARRIED_AT..end], out);
     }
 }
 
@@ -81,7 +85,7 @@ fn show_output(room: &[u8; 2160]) {
 // Row i with its sum at a word, into an output whose bytes are all 165.
 pub(crate) fn write_at(i: usize, row: u64, word: usize) {
     let mut room = [165; 2160];
-    let length = build::given(row, tables::OUTPUT, 1080) as usize;
+    let length = build::given(row, tables::OUTPUT, PACKET_SIZE as u64) as usize;
     show::head(b"write", i, word);
     if length <= 2160 {
         write_carried(row, word, &mut room[0..length]);
@@ -90,5 +94,9 @@ pub(crate) fn write_at(i: usize, row: u64, word: usize) {
 }
 
 pub(crate) fn write(i: usize, row: u64) {
-    write_at(i, row, build::given(row, tables::WORD, 70) as usize);
+    write_at(
+        i,
+        row,
+        build::given(row, tables::WORD, PUBLISHED_SUM_WORD as u64) as usize,
+    );
 }

@@ -5,10 +5,13 @@ use mathlib.Core.List.{List, [], _∷_, _++_}
 use lib.Dec.{eqb, leb}
 use lib.ListN.{length, getD}
 use Rattle.octets.specs.Bytes.{octetsOf, put}
-use Rattle.octets.specs.Refusal.{refuse_unless_else_, within, Said, refused, answered, say, after}
+use Rattle.octets.specs.Refusal.{refuse_unless_else_, Said, refused, answered, say, after}
 use Rattle.octets.specs.Table.{table}
 use Rattle.layout.specs.Column.{join}
 use Rattle.checksum.specs.Sum.{packetSum}
+use Rattle.packet_layout.specs.Layout as columns
+use Rattle.packet_layout.specs.Header.{fixedInstrument, fixedSegmentation, fixedLength, mostErrorStatus, mostCount}
+use Rattle.packet_layout.specs.SumWord.{isSumWord}
 use Rattle.packet_bins.specs.Bins.{binByte}
 use Rattle.packet.specs.declared.PacketFields.{PacketFields}
 use Rattle.packet.specs.declared.PacketArrays.{PacketArrays}
@@ -17,18 +20,18 @@ use Rattle.packet_writer.specs.declared.PacketWritten.the-variants.{Refu
 
 -- bytes 0-1, from the top bit: version 3 (0), spare 1 (0), flag 1 (0), error status 3, instrument 8 (35)
 abbrev pub idWord : PacketFields → ℕ
-idWord f = f .«error_status» * 2 ^ 8 + 35
+idWord f = f .«error_status» * 2 ^ 8 + fixedInstrument
 
 -- bytes 2-3, from the top bit: segmentation 2 (3), count 14
 abbrev pub sequenceWord : PacketFields → ℕ
-sequenceWord f = 3 * 2 ^ 14 + f .count
+sequenceWord f = fixedSegmentation * 2 ^ 14 + f .count
 
 -- the columns of bytes 0 to 11; the length is 1,073 and the type 0
 abbrev pub headParts : PacketFields → List (List ℕ)
 headParts f =
     octetsOf 2 (idWord f)
     ∷ octetsOf 2 (sequenceWord f)
-    ∷ octetsOf 2 1073
+    ∷ octetsOf 2 fixedLength
     ∷ octetsOf 4 (f .«coarse_time»)
     ∷ (f .«fine_time» ∷ [])
     ∷ (0 ∷ [])
@@ -51,7 +54,7 @@ statusParts f =
 
 -- bytes 56 to 103: the bins with the bytes of each pair swapped, so that byte binByte j holds bin j
 unfoldable pub histogramOf : List ℕ → List ℕ
-histogramOf bins = table 48 (λ k. getD bins (binByte k - 56) 0)
+histogramOf bins = table (columns.histogram .items) (λ k. getD bins (binByte k - columns.histogram .start) 0)
 
 -- the packet's columns, in the order of its table
 abbrev pub partsOf : PacketFields → PacketArrays → List ℕ → List (List ℕ)
@@ -59,31 +62,31 @@ partsOf f a x =
     headParts f
     ++ (a .temperatures ∷ a .readings ∷ (statusParts f ++ (histogramOf (a .bins) ∷ octetsOf 2 (f .hstart) ∷ x ∷ [])))
 
--- the packet before its sum is stored, and then with the sum at word w
+-- the packet before its sum is stored, and then with the sum at its word
 unfoldable pub unsummed : PacketFields → PacketArrays → List ℕ → List ℕ
 unsummed f a x = join (partsOf f a x)
 
 unfoldable pub packetOf : PacketFields → PacketArrays → List ℕ → ℕ → List ℕ
-packetOf f a x w = put (unsummed f a x) (w * 2) (octetsOf 2 (packetSum (unsummed f a x) w))
+packetOf f a x word = put (unsummed f a x) (word * 2) (octetsOf 2 (packetSum (unsummed f a x) word))
 
 -- 2: sum's place not 53 to 539. 17: count over 16,383, error status over 7 or carried bytes not 974. 18: output not 1,080 bytes
 unfoldable pub writeRefusal : PacketFields → List ℕ → ℕ → List ℕ → ℕ
-writeRefusal f x w out =
-    refuse 2 unless within 53 539 w else
-    refuse 17 unless leb (f .count) 16383 else
-    refuse 17 unless leb (f .«error_status») 7 else
-    refuse 17 unless eqb (length x) 974 else
-    refuse 18 unless eqb (length out) 1080 else
+writeRefusal f x word out =
+    refuse 2 unless isSumWord word else
+    refuse 17 unless leb (f .count) mostCount else
+    refuse 17 unless leb (f .«error_status») mostErrorStatus else
+    refuse 17 unless eqb (length x) (columns.carried .items) else
+    refuse 18 unless eqb (length out) columns.packetSize else
     0
 
 -- the number that each case of the answer stands for
-abbrev pub saidWritten : PacketWritten → Said (Unit {0})
-saidWritten (Refused n) = refused n
-saidWritten Written = answered tt
+abbrev pub writtenSaid : PacketWritten → Said (Unit {0})
+writtenSaid (Refused n) = refused n
+writtenSaid Written = answered tt
 
--- what the writer says, and the bytes then in the output
-abbrev pub writeSaid : PacketFields → List ℕ → ℕ → List ℕ → Said (Unit {0})
-writeSaid f x w out = say (writeRefusal f x w out) tt
+-- what is due of the writer, and the bytes then in the output
+abbrev pub writeDue : PacketFields → List ℕ → ℕ → List ℕ → Said (Unit {0})
+writeDue f x word out = say (writeRefusal f x word out) tt
 
 abbrev pub writeBytes : PacketFields → PacketArrays → List ℕ → ℕ → List ℕ → List ℕ
-writeBytes f a x w out = after (writeRefusal f x w out) (packetOf f a x w) out
+writeBytes f a x word out = after (writeRefusal f x word out) (packetOf f a x word) out

@@ -11,13 +11,13 @@ use Rattle.pedr.specs.declared.RecordAnswer.{RecordAnswer}
 use Rattle.pedr.specs.declared.RecordAnswer.the-variants.{Refused, Accepted}
 
 -- the number, or the fields, that each case of the answer stands for
-abbrev pub said : RecordAnswer → Said RecordFields
-said (Refused n) = refused n
-said (Accepted f) = answered f
+abbrev pub recordSaid : RecordAnswer → Said RecordFields
+recordSaid (Refused n) = refused n
+recordSaid (Accepted f) = answered f
 
--- what the reader says of the bytes, and the arrays beside it
-abbrev pub readSaid : List ℕ → Said RecordFields
-readSaid s = say (recordRefusal s) (fieldsOf s)
+-- what is due of the reader, and the arrays beside it
+abbrev pub readDue : List ℕ → Said RecordFields
+readDue s = say (recordRefusal s) (fieldsOf s)
 
 abbrev pub readArrays : List ℕ → RecordArrays
 readArrays s = after (recordRefusal s) (arraysOf s) noArrays

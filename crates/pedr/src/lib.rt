@@ -2,8 +2,8 @@
 use pedr_arrays::RecordArrays;
 use pedr_fields::RecordFields;
 ghost use mathlib.Core.Path.{_≡_};
-ghost use Rattle.octets.specs.Refusal.{numberSaid};
-ghost use Rattle.pedr.specs.Read.{said, readSaid, readArrays};
+ghost use Rattle.octets.specs.Refusal.{refusalIn};
+ghost use Rattle.pedr.specs.Read.{recordSaid, readDue, readArrays};
 
 // A refusal with its number, or the fields of an accepted record.
 pub enum RecordAnswer {
@@ -19,7 +19,7 @@ pub struct RecordRead {
 
 // Reads a record. Any bytes.
 pub fn read_record(bytes: &[u8]) -> RecordRead
-    ensures { λ r. ⌜ (said (r .answer) ≡ readSaid (now (bytes .entry))) × (r .arrays ≡ readArrays (now (bytes .entry))) ⌝ }
+    ensures { λ r. ⌜ (recordSaid (r .answer) ≡ readDue (now (bytes .entry))) × (r .arrays ≡ readArrays (now (bytes .entry))) ⌝ }
 {
     let n = pedr_check::record_refusal(bytes);
     if n != 0 {
@@ -36,7 +36,7 @@ pub fn read_record(bytes: &[u8]) -> RecordRead
 
 // The refusal's number, or 0 for an accepted record.
 pub fn refusal_number(answer: RecordAnswer) -> u8
-    ensures { λ r. ⌜ r ≡ numberSaid (said answer) ⌝ }
+    ensures { λ r. ⌜ r ≡ refusalIn (recordSaid answer) ⌝ }
 {
     match answer {
         RecordAnswer::Refused(n) => n,

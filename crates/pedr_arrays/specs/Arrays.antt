@@ -22,13 +22,13 @@ abbrev pub shotClass : ℕ → ShotClass
 shotClass n = record { class = classOf n }
 
 unfoldable pub classesOf : List ℕ → List ShotClass
-classesOf s = table 20 (λ k. shotClass (item s columns.class k))
+classesOf s = table columns.shotCount (λ k. shotClass (item s columns.class k))
 
 unfoldable pub encodersOf : List ℕ → List Encoder
-encodersOf s = table 20 (λ k. encoderOf (item s columns.encoder k))
+encodersOf s = table columns.shotCount (λ k. encoderOf (item s columns.encoder k))
 
 unfoldable pub allFailuresOf : List ℕ → List ShotFailures
-allFailuresOf s = table 20 (λ k. failuresOf s (suc k))
+allFailuresOf s = table columns.shotCount (λ k. failuresOf s (suc k))
 
 -- the columns of 20 shots
 unfoldable pub shotArraysOf : List ℕ → ShotArrays
@@ -66,16 +66,16 @@ noFailures = record { power = false; energy = false; range = false; window = fal
 abbrev pub noShotArrays : ShotArrays
 noShotArrays =
     record {
-      radius = replicate 20 0;
-      energy = replicate 20 0;
-      reflectivity = replicate 20 0;
-      «trigger_channel» = replicate 20 0;
-      «pulse_width» = replicate 20 0;
-      «optical_width» = replicate 20 0;
-      «laser_power» = replicate 20 0;
-      class = replicate 20 (shotClass 0);
-      encoder = replicate 20 (encoderOf 0);
-      failures = replicate 20 noFailures;
+      radius = replicate columns.shotCount 0;
+      energy = replicate columns.shotCount 0;
+      reflectivity = replicate columns.shotCount 0;
+      «trigger_channel» = replicate columns.shotCount 0;
+      «pulse_width» = replicate columns.shotCount 0;
+      «optical_width» = replicate columns.shotCount 0;
+      «laser_power» = replicate columns.shotCount 0;
+      class = replicate columns.shotCount (shotClass 0);
+      encoder = replicate columns.shotCount (encoderOf 0);
+      failures = replicate columns.shotCount noFailures;
     }
 
 unfoldable pub noArrays : RecordArrays

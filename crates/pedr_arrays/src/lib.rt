@@ -2,8 +2,20 @@
 use pedr_flags::Class;
 use pedr_flags::Encoder;
 use pedr_flags::ShotFailures;
+use pedr_layout::CLASS_AT;
+use pedr_layout::ENCODER_AT;
+use pedr_layout::ENERGY_AT;
+use pedr_layout::LASER_POWER_AT;
+use pedr_layout::OPTICAL_WIDTH_AT;
+use pedr_layout::PULSE_WIDTH_AT;
+use pedr_layout::RADIUS_AT;
+use pedr_layout::REFLECTIVITY_AT;
+use pedr_layout::SHOTS;
+use pedr_layout::TRIGGER_CHANNEL_AT;
 ghost use mathlib.Core.Path.{_≡_};
-ghost use Rattle.octets.specs.Table.{natsAt, intsAt};
+ghost use Rattle.octets.specs.Table.{natsAt};
+ghost use Rattle.layout.specs.Column.{values};
+ghost use Rattle.pedr_layout.specs.Layout as columns;
 ghost use Rattle.pedr_arrays.specs.Arrays.{classesOf, encodersOf, allFailuresOf, shotArraysOf, channelArraysOf, arraysOf, noArrays};
 
 // The class of one shot. A struct's array may hold structs, not enums.
@@ -13,16 +25,16 @@ pub struct ShotClass {
 
 // The columns of 20 shots; shot s stands at index s - 1.
 pub struct ShotArrays {
-    pub radius: [u32; 20],
-    pub energy: [u16; 20],
-    pub reflectivity: [u16; 20],
-    pub trigger_channel: [u8; 20],
-    pub pulse_width: [u16; 20],
-    pub optical_width: [u16; 20],
-    pub laser_power: [u16; 20],
-    pub class: [ShotClass; 20],
-    pub encoder: [Encoder; 20],
-    pub failures: [ShotFailures; 20],
+    pub radius: [u32; SHOTS],
+    pub energy: [u16; SHOTS],
+    pub reflectivity: [u16; SHOTS],
+    pub trigger_channel: [u8; SHOTS],
+    pub pulse_width: [u16; SHOTS],
+    pub optical_width: [u16; SHOTS],
+    pub laser_power: [u16; SHOTS],
+    pub class: [ShotClass; SHOTS],
+    pub encoder: [Encoder; SHOTS],
+    pub failures: [ShotFailures; SHOTS],
 }
 
 // The columns of the 4 channels, in the first half of the frame and then in the second.
@@ -39,46 +51,46 @@ pub struct RecordArrays {
     pub source_header: [u32; 2],
 }
 
-fn read_u16x20(bytes: &[u8], i: usize) -> [u16; 20]
-    ensures { λ r. ⌜ r ≡ natsAt (now (bytes .entry)) i 2 20 ⌝ }
+fn read_u16x20(bytes: &[u8], i: usize) -> [u16; SHOTS]
+    ensures { λ r. ⌜ r ≡ natsAt (now (bytes .entry)) i 2 columns.shotCount ⌝ }
 {
-    let mut numbers = [0u16; 20];
+    let mut numbers = [0u16; SHOTS];
     octets::read_u16s(bytes, i, &mut numbers);
     numbers
 }
 
-fn read_u32x20(bytes: &[u8], i: usize) -> [u32; 20]
-    ensures { λ r. ⌜ r ≡ natsAt (now (bytes .entry)) i 4 20 ⌝ }
+fn read_u32x20(bytes: &[u8], i: usize) -> [u32; SHOTS]
+    ensures { λ r. ⌜ r ≡ natsAt (now (bytes .entry)) i 4 columns.shotCount ⌝ }
 {
-    let mut numbers = [0u32; 20];
+    let mut numbers = [0u32; SHOTS];
     octets::read_u32s(bytes, i, &mut numbers);
     numbers
 }
 
-fn read_u8x20(bytes: &[u8], i: usize) -> [u8; 20]
-    ensures { λ r. ⌜ r ≡ natsAt (now (bytes .entry)) i 1 20 ⌝ }
+fn read_u8x20(bytes: &[u8], i: usize) -> [u8; SHOTS]
+    ensures { λ r. ⌜ r ≡ natsAt (now (bytes .entry)) i 1 columns.shotCount ⌝ }
 {
-    let mut numbers = [0u8; 20];
+    let mut numbers = [0u8; SHOTS];
     octets::read_into(bytes, i, &mut numbers);
     numbers
 }
 
-fn read_classes(bytes: &[u8]) -> [ShotClass; 20]
+fn read_classes(bytes: &[u8]) -> [ShotClass; SHOTS]
     ensures { λ r. ⌜ r ≡ classesOf (now (bytes .entry)) ⌝ }
 {
     let mut classes = [ShotClass {
         class: Class::NoTrigger,
-    }; 20];
+    }; SHOTS];
     let mut k = 0;
-    while k < 20 {
-        let class = pedr_flags::class_of(octets::u16_at(bytes, 384 + 2 * k));
+    while k < SHOTS {
+        let class = pedr_flags::class_of(octets::u16_at(bytes, CLASS_AT + 2 * k));
         classes[k] = ShotClass { class };
         k = k + 1;
     }
     classes
 }
 
-fn read_encoders(bytes: &[u8]) -> [Encoder; 20]
+fn read_encoders(bytes: &[u8]) -> [Encoder; SHOTS]
     ensures { λ r. ⌜ r ≡ encodersOf (now (bytes .entry)) ⌝ }
 {
     let mut encoders = [Encoder {
@@ -86,16 +98,16 @@ fn read_encoders(bytes: &[u8]) -> [Encoder; 20]
         carried_low: 0,
         stop: 0,
         carried_high: 0,
-    }; 20];
+    }; SHOTS];
     let mut k = 0;
-    while k < 20 {
-        encoders[k] = pedr_flags::encoder_of(octets::u8_at(bytes, 620 + k));
+    while k < SHOTS {
+        encoders[k] = pedr_flags::encoder_of(octets::u8_at(bytes, ENCODER_AT + k));
         k = k + 1;
     }
     encoders
 }
 
-fn read_all_failures(bytes: &[u8]) -> [ShotFailures; 20]
+fn read_all_failures(bytes: &[u8]) -> [ShotFailures; SHOTS]
     ensures { λ r. ⌜ r ≡ allFailuresOf (now (bytes .entry)) ⌝ }
 {
     let mut failures = [ShotFailures {
@@ -104,9 +116,9 @@ fn read_all_failures(bytes: &[u8]) -> [ShotFailures; 20]
         range: false,
         window: false,
         comparison: false,
-    }; 20];
+    }; SHOTS];
     let mut k = 0;
-    while k < 20 {
+    while k < SHOTS {
         failures[k] = pedr_flags::read_failures(bytes, k + 1);
         k = k + 1;
     }
@@ -117,13 +129,13 @@ fn read_shot_arrays(bytes: &[u8]) -> ShotArrays
     ensures { λ r. ⌜ r ≡ shotArraysOf (now (bytes .entry)) ⌝ }
 {
     ShotArrays {
-        radius: read_u32x20(bytes, 48),
-        energy: read_u16x20(bytes, 144),
-        reflectivity: read_u16x20(bytes, 184),
-        trigger_channel: read_u8x20(bytes, 224),
-        pulse_width: read_u16x20(bytes, 244),
-        optical_width: read_u16x20(bytes, 284),
-        laser_power: read_u16x20(bytes, 344),
+        radius: read_u32x20(bytes, RADIUS_AT),
+        energy: read_u16x20(bytes, ENERGY_AT),
+        reflectivity: read_u16x20(bytes, REFLECTIVITY_AT),
+        trigger_channel: read_u8x20(bytes, TRIGGER_CHANNEL_AT),
+        pulse_width: read_u16x20(bytes, PULSE_WIDTH_AT),
+        optical_width: read_u16x20(bytes, OPTICAL_WIDTH_AT),
+        laser_power: read_u16x20(bytes, LASER_POWER_AT),
         class: read_classes(bytes),
         encoder: read_encoders(bytes),
         failures: read_all_failures(bytes),
@@ -141,7 +153,7 @@ fn read_channel_arrays(bytes: &[u8]) -> ChannelArrays
 }
 
 fn read_xyz(bytes: &[u8]) -> [i32; 3]
-    ensures { λ r. ⌜ r ≡ intsAt (now (bytes .entry)) 324 4 3 ⌝ }
+    ensures { λ r. ⌜ r ≡ values (now (bytes .entry)) columns.xyz ⌝ }
 {
     let x = octets::i32_at(bytes, 324);
     let y = octets::i32_at(bytes, 328);
@@ -150,7 +162,7 @@ fn read_xyz(bytes: &[u8]) -> [i32; 3]
 }
 
 fn read_source_header(bytes: &[u8]) -> [u32; 2]
-    ensures { λ r. ⌜ r ≡ natsAt (now (bytes .entry)) 492 4 2 ⌝ }
+    ensures { λ r. ⌜ r ≡ values (now (bytes .entry)) columns.sourceHeader ⌝ }
 {
     let mut header = [0u32; 2];
     octets::read_u32s(bytes, 492, &mut header);
@@ -174,29 +186,29 @@ pub fn no_arrays() -> RecordArrays
     ensures { λ r. ⌜ r ≡ noArrays ⌝ }
 {
     let shots = ShotArrays {
-        radius: [0; 20],
-        energy: [0; 20],
-        reflectivity: [0; 20],
-        trigger_channel: [0; 20],
-        pulse_width: [0; 20],
-        optical_width: [0; 20],
-        laser_power: [0; 20],
+        radius: [0; SHOTS],
+        energy: [0; SHOTS],
+        reflectivity: [0; SHOTS],
+        trigger_channel: [0; SHOTS],
+        pulse_width: [0; SHOTS],
+        optical_width: [0; SHOTS],
+        laser_power: [0; SHOTS],
         class: [ShotClass {
             class: Class::NoTrigger,
-        }; 20],
+        }; SHOTS],
         encoder: [Encoder {
             start: 0,
             carried_low: 0,
             stop: 0,
             carried_high: 0,
-        }; 20],
+        }; SHOTS],
         failures: [ShotFailures {
             power: false,
             energy: false,
             range: false,
             window: false,
             comparison: false,
-        }; 20],
+        }; SHOTS],
     };
     let channels = ChannelArrays {
         noise: [0; 8],

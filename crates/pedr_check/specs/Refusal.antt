@@ -13,7 +13,7 @@ use Rattle.pedr_flags.specs.Quality.{goodCount}
 -- ±90,000,000; frame index not 1 to 7
 unfoldable pub recordRefusal : List ℕ → ℕ
 recordRefusal s =
-    refuse 11 unless eqb (length s) 776 else
+    refuse 11 unless eqb (length s) columns.recordSize else
     refuse 12 unless eqb (goodCount (value s columns.qualityNumber)) (value s columns.qualityCounter) else
     refuse 13 unless leb (natAbs (value s columns.timeMicros)) 999999 else
     refuse 14 unless leb (natAbs (value s columns.latitude)) 90000000 else

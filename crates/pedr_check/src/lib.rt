@@ -1,4 +1,10 @@
 // The refusals of a PEDR record.
+use pedr_layout::FRAME_INDEX_AT;
+use pedr_layout::LATITUDE_AT;
+use pedr_layout::QUALITY_COUNTER_AT;
+use pedr_layout::QUALITY_NUMBER_AT;
+use pedr_layout::RECORD_SIZE;
+use pedr_layout::TIME_MICROS_AT;
 ghost use mathlib.Core.Path.{_≡_};
 ghost use lib.Dec.{leb};
 ghost use lib.IntN.{natAbs};
@@ -19,24 +25,24 @@ fn is_within(x: i32, most: u32) -> bool
 fn micros(bytes: &[u8]) -> i32
     ensures { λ r. ⌜ r ≡ value (now (bytes .entry)) timeMicros ⌝ }
 {
-    octets::i32_at(bytes, 4)
+    octets::i32_at(bytes, TIME_MICROS_AT)
 }
 
 fn latitude(bytes: &[u8]) -> i32
     ensures { λ r. ⌜ r ≡ value (now (bytes .entry)) latitude ⌝ }
 {
-    octets::i32_at(bytes, 12)
+    octets::i32_at(bytes, LATITUDE_AT)
 }
 
 // Refusals 11 to 15, or 0.
 pub fn record_refusal(bytes: &[u8]) -> u8
     ensures { λ r. ⌜ r ≡ recordRefusal (now (bytes .entry)) ⌝ }
 {
-    if bytes.len() != 776 {
+    if bytes.len() != RECORD_SIZE {
         return 11;
     }
-    let good = pedr_flags::good_count(octets::u24_at(bytes, 28));
-    if good != octets::u8_at(bytes, 31) as u32 {
+    let good = pedr_flags::good_count(octets::u24_at(bytes, QUALITY_NUMBER_AT));
+    if good != octets::u8_at(bytes, QUALITY_COUNTER_AT) as u32 {
         return 12;
     }
     if !is_within(micros(bytes), 999_999) {
@@ -45,7 +51,7 @@ pub fn record_refusal(bytes: &[u8]) -> u8
     if !is_within(latitude(bytes), 90_000_000) {
         return 14;
     }
-    let frame_index = octets::u16_at(bytes, 490);
+    let frame_index = octets::u16_at(bytes, FRAME_INDEX_AT);
     if frame_index < 1 {
         return 15;
     }

@@ -1,6 +1,9 @@
 // The columns of a PEDR record that are single numbers, group by group.
 use pedr_flags::Descriptor;
 use pedr_flags::Quality;
+use pedr_layout::FRAME_INDEX_AT;
+use pedr_layout::LATITUDE_AT;
+use pedr_layout::TIME_MICROS_AT;
 ghost use mathlib.Core.Path.{_≡_};
 ghost use Rattle.pedr_fields.specs.Fields.{timeOf, positionOf, pointingOf, rangesOf, receiverOf, linkOf, fieldsOf};
 ghost use Rattle.pedr_fields.specs.Time.{timeInMicros};
@@ -70,7 +73,7 @@ fn read_time(bytes: &[u8]) -> FrameTime
 {
     FrameTime {
         whole: octets::i32_at(bytes, 0),
-        micros: octets::i32_at(bytes, 4),
+        micros: octets::i32_at(bytes, TIME_MICROS_AT),
     }
 }
 
@@ -79,7 +82,7 @@ fn read_position(bytes: &[u8]) -> OrbitPosition
 {
     OrbitPosition {
         orbit: octets::u32_at(bytes, 8),
-        latitude: octets::i32_at(bytes, 12),
+        latitude: octets::i32_at(bytes, LATITUDE_AT),
         longitude: octets::i32_at(bytes, 16),
         radial_distance: octets::u32_at(bytes, 20),
         ground_latitude: octets::i32_at(bytes, 336),
@@ -117,7 +120,7 @@ fn read_receiver(bytes: &[u8]) -> Receiver
         hit_count: octets::u16_at(bytes, 484),
         frame_counter: octets::u16_at(bytes, 486),
         trigger: octets::u16_at(bytes, 488),
-        frame_index: octets::u16_at(bytes, 490),
+        frame_index: octets::u16_at(bytes, FRAME_INDEX_AT),
     }
 }
 

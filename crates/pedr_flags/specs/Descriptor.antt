@@ -6,7 +6,7 @@ use lib.Dec.{eqb}
 use Rattle.numbers.specs.Bit.{bit}
 use Rattle.octets.specs.Refusal.{within}
 use Rattle.layout.specs.Column.{value}
-use Rattle.pedr_layout.specs.Layout.{_u1, _u3}
+use Rattle.pedr_layout.specs.Layout.{shotCount, _u1, _u3}
 use Rattle.pedr_flags.specs.declared.Descriptor.{Descriptor}
 use Rattle.pedr_flags.specs.declared.ShotFailures.{ShotFailures}
 
@@ -33,7 +33,7 @@ descriptorOf s =
 
 -- a test of shot k (1 to 20), whose bits stand from first + 1 on
 abbrev pub failedAt : List ℕ → ℕ → ℕ → Bool
-failedAt s first k = within 1 20 k && failed s (first + k)
+failedAt s first k = within 1 shotCount k && failed s (first + k)
 
 -- shot k is at 3 + k power, 23 + k energy, 43 + k range, 63 + k window, 83 + k comparison
 unfoldable pub failuresOf : List ℕ → ℕ → ShotFailures

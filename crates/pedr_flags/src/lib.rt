@@ -1,4 +1,7 @@
 // The flags and codes of the PEDR record: quality, descriptor, class and encoder bits.
+use pedr_layout::QUALITY_COUNTER_AT;
+use pedr_layout::QUALITY_NUMBER_AT;
+use pedr_layout::SHOTS;
 ghost use mathlib.Core.Path.{_≡_};
 ghost use Prim.Native.Nat.{_<_, _≤_};
 ghost use Rattle.pedr_flags.specs.Quality.{goodShot, goodCount, qualityOf};
@@ -60,7 +63,7 @@ pub fn is_good(number: u32, shot: usize) -> bool
     if shot < 1 {
         return false;
     }
-    if 20 < shot {
+    if SHOTS < shot {
         return false;
     }
     (number >> (20 - shot)) & 1 == 1
@@ -70,11 +73,11 @@ pub fn is_good(number: u32, shot: usize) -> bool
 pub fn read_quality(bytes: &[u8]) -> Quality
     ensures { λ r. ⌜ r ≡ qualityOf (now (bytes .entry)) ⌝ }
 {
-    let number = octets::u24_at(bytes, 28);
+    let number = octets::u24_at(bytes, QUALITY_NUMBER_AT);
     Quality {
         good: number & 0xFFFFF,
         carried: ((number >> 20) & 15) as u8,
-        counter: octets::u8_at(bytes, 31),
+        counter: octets::u8_at(bytes, QUALITY_COUNTER_AT),
     }
 }
 
@@ -108,7 +111,7 @@ fn has_failed_at(bytes: &[u8], first: usize, shot: usize) -> bool
     if shot < 1 {
         return false;
     }
-    if 20 < shot {
+    if SHOTS < shot {
         return false;
     }
     has_failed(bytes, first + shot)

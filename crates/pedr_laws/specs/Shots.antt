@@ -3,6 +3,7 @@ use Prim.Native.Nat.{ℕ, _-_, _≤_}
 use mathlib.Core.Path.{_≡_}
 use mathlib.Core.List.{List}
 use lib.ListN.{getD}
+use Rattle.pedr_layout.specs.Layout.{shotCount}
 use Rattle.pedr_flags.specs.Quality.{goodShot}
 use Rattle.pedr_flags.specs.Encoder.{encoderOf}
 use Rattle.pedr_fields.specs.Fields.{fieldsOf}
@@ -31,4 +32,4 @@ shotFrom f a k =
 
 -- for any bytes and each shot from 1 to 20
 abbrev pub ShotsAgree : Type 0
-ShotsAgree = (s : List ℕ) (k : ℕ) → 1 ≤ k → k ≤ 20 → shotFrom (fieldsOf s) (arraysOf s) k ≡ shotOf s k
+ShotsAgree = (s : List ℕ) (k : ℕ) → 1 ≤ k → k ≤ shotCount → shotFrom (fieldsOf s) (arraysOf s) k ≡ shotOf s k

@@ -4,6 +4,10 @@ use Prim.Native.Nat.{ℕ, _-_}
 use mathlib.Core.List.{List, [], _∷_, _++_}
 use Rattle.layout.specs.Column.{Column, Sign, unsigned, complement}
 
+-- the shots of a frame
+abbrev pub shotCount : ℕ
+shotCount = 20
+
 -- record byte b stands at index b - 1
 abbrev pub recordColumn : Sign → ℕ → ℕ → ℕ → Column
 recordColumn g w b n = record { start = b - 1; width = w; items = n; sign = g }
@@ -179,5 +183,8 @@ listedColumns =
     ∷ width ∷ thresholds ∷ channelMask ∷ minimumHits ∷ hitCount ∷ frameCounter ∷ trigger ∷ frameIndex ∷ sourceHeader ∷ packetSeconds ∷ packetMillis ∷ fineTime ∷ []
 
 -- the whole record, bytes 1 to 776
+abbrev pub recordSize : ℕ
+recordSize = 776
+
 abbrev pub recordColumns : List Column
 recordColumns = listedColumns ++ uninterpreted509 ∷ encoder ∷ uninterpreted641 ∷ []

@@ -32,12 +32,13 @@ shotOf s k =
 
 -- 11 to 15, then 16: shot not 1 to 20
 unfoldable pub shotRefusal : List ℕ → ℕ → ℕ
-shotRefusal s k = recordRefusal s then refuse 16 unless within 1 20 k else 0
+shotRefusal s k = recordRefusal s then refuse 16 unless within 1 columns.shotCount k else 0
 
 -- the number, or the shot, that each case of the answer stands for
-abbrev pub said : ShotAnswer → Said ShotFields
-said (Refused n) = refused n
-said (Accepted f) = answered f
+abbrev pub shotSaid : ShotAnswer → Said ShotFields
+shotSaid (Refused n) = refused n
+shotSaid (Accepted f) = answered f
 
-abbrev pub shotSaid : List ℕ → ℕ → Said ShotFields
-shotSaid s k = say (shotRefusal s k) (shotOf s k)
+-- what is due of the shot entry
+abbrev pub shotDue : List ℕ → ℕ → Said ShotFields
+shotDue s k = say (shotRefusal s k) (shotOf s k)

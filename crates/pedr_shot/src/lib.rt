@@ -2,10 +2,22 @@
 use pedr_flags::Class;
 use pedr_flags::Encoder;
 use pedr_flags::ShotFailures;
+use pedr_layout::CLASS_AT;
+use pedr_layout::ENCODER_AT;
+use pedr_layout::ENERGY_AT;
+use pedr_layout::LASER_POWER_AT;
+use pedr_layout::OPTICAL_WIDTH_AT;
+use pedr_layout::PULSE_WIDTH_AT;
+use pedr_layout::QUALITY_NUMBER_AT;
+use pedr_layout::RADIUS_AT;
+use pedr_layout::REFLECTIVITY_AT;
+use pedr_layout::SHOTS;
+use pedr_layout::TRIGGER_CHANNEL_AT;
 ghost use mathlib.Core.Path.{_≡_};
 ghost use Prim.Native.Nat.{_≤_};
-ghost use Rattle.octets.specs.Refusal.{numberSaid};
-ghost use Rattle.pedr_shot.specs.Shot.{shotOf, shotRefusal, said, shotSaid};
+ghost use Rattle.octets.specs.Refusal.{refusalIn};
+ghost use Rattle.pedr_layout.specs.Layout.{shotCount};
+ghost use Rattle.pedr_shot.specs.Shot.{shotOf, shotRefusal, shotSaid, shotDue};
 
 // A shot's value of each column of 20, whether it is good, and the tests that it failed.
 pub struct ShotFields {
@@ -39,35 +51,35 @@ fn refusal(bytes: &[u8], shot: usize) -> u8
     if shot < 1 {
         return 16;
     }
-    if 20 < shot {
+    if SHOTS < shot {
         return 16;
     }
     0
 }
 
 fn read_fields(bytes: &[u8], shot: usize) -> ShotFields
-    requires { ⌜ (1 ≤ shot) × (shot ≤ 20) ⌝ }
+    requires { ⌜ (1 ≤ shot) × (shot ≤ shotCount) ⌝ }
     ensures { λ r. ⌜ r ≡ shotOf (now (bytes .entry)) shot ⌝ }
 {
     let k = shot - 1;
     ShotFields {
-        radius: octets::u32_at(bytes, 48 + 4 * k),
-        energy: octets::u16_at(bytes, 144 + 2 * k),
-        reflectivity: octets::u16_at(bytes, 184 + 2 * k),
-        trigger_channel: octets::u8_at(bytes, 224 + k),
-        pulse_width: octets::u16_at(bytes, 244 + 2 * k),
-        optical_width: octets::u16_at(bytes, 284 + 2 * k),
-        laser_power: octets::u16_at(bytes, 344 + 2 * k),
-        class: pedr_flags::class_of(octets::u16_at(bytes, 384 + 2 * k)),
-        encoder: pedr_flags::encoder_of(octets::u8_at(bytes, 620 + k)),
-        good: pedr_flags::is_good(octets::u24_at(bytes, 28), shot),
+        radius: octets::u32_at(bytes, RADIUS_AT + 4 * k),
+        energy: octets::u16_at(bytes, ENERGY_AT + 2 * k),
+        reflectivity: octets::u16_at(bytes, REFLECTIVITY_AT + 2 * k),
+        trigger_channel: octets::u8_at(bytes, TRIGGER_CHANNEL_AT + k),
+        pulse_width: octets::u16_at(bytes, PULSE_WIDTH_AT + 2 * k),
+        optical_width: octets::u16_at(bytes, OPTICAL_WIDTH_AT + 2 * k),
+        laser_power: octets::u16_at(bytes, LASER_POWER_AT + 2 * k),
+        class: pedr_flags::class_of(octets::u16_at(bytes, CLASS_AT + 2 * k)),
+        encoder: pedr_flags::encoder_of(octets::u8_at(bytes, ENCODER_AT + k)),
+        good: pedr_flags::is_good(octets::u24_at(bytes, QUALITY_NUMBER_AT), shot),
         failures: pedr_flags::read_failures(bytes, shot),
     }
 }
 
 // Reads one shot of a record. Any bytes, any shot.
 pub fn read_shot(bytes: &[u8], shot: usize) -> ShotAnswer
-    ensures { λ r. ⌜ said r ≡ shotSaid (now (bytes .entry)) shot ⌝ }
+    ensures { λ r. ⌜ shotSaid r ≡ shotDue (now (bytes .entry)) shot ⌝ }
 {
     let n = refusal(bytes, shot);
     if n != 0 {
@@ -78,7 +90,7 @@ pub fn read_shot(bytes: &[u8], shot: usize) -> ShotAnswer
 
 // The refusal's number, or 0 for a shot that was read.
 pub fn refusal_number(answer: ShotAnswer) -> u8
-    ensures { λ r. ⌜ r ≡ numberSaid (said answer) ⌝ }
+    ensures { λ r. ⌜ r ≡ refusalIn (shotSaid answer) ⌝ }
 {
     match answer {
         ShotAnswer::Refused(n) => n,

@@ -12,7 +12,7 @@ mod show;
 // The first n rows in turn; each finds the record as the last one left it.
 fn run_all(n: usize) {
     let mut room = [0; 800];
-    let mut length = 776;
+    let mut length = pedr_layout::RECORD_SIZE;
     let mut i = 0;
     while i < n {
         let row = cases::row(i);

@@ -96,5 +96,5 @@ pub(crate) fn length_after(row: u64, length: usize) -> usize {
     if rows::fill(row) == 0 {
         return length;
     }
-    776
+    pedr_layout::RECORD_SIZE
 }

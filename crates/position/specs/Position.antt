@@ -35,6 +35,6 @@ unfoldable pub position : Anchor → ℕ → ℕ → ℕ → Said ℤ
 position anchor c t tolerance = fitting (pos c -ℤ pos (anchor .count)) (pos t -ℤ pos (anchor .time)) tolerance
 
 -- the number, or the position, that each case of the answer stands for
-abbrev pub said : Located → Said ℤ
-said (At p) = answered p
-said Nowhere = refused 21
+abbrev pub locatedSaid : Located → Said ℤ
+locatedSaid (At p) = answered p
+locatedSaid Nowhere = refused 21

@@ -3,7 +3,7 @@ ghost use mathlib.Core.Path.{_≡_};
 ghost use lib.Dec.{leb};
 ghost use lib.IntN.{natAbs};
 ghost use lib.Signed.{shrZ};
-ghost use Rattle.position.specs.Position.{said, position};
+ghost use Rattle.position.specs.Position.{locatedSaid, position};
 ghost use Rattle.position.specs.Rule.{Rule};
 
 // How far, in seconds either way, a packet's clock may be from 14 seconds for each position.
@@ -43,7 +43,7 @@ fn is_within(x: i64, most: u32) -> bool
 
 // The position of the packet with this count and coarse time.
 pub fn locate(anchor: Anchor, count: u16, time: u32, tolerance: u32) -> Located
-    ensures { λ r. ⌜ said r ≡ position anchor count time tolerance ⌝ }
+    ensures { λ r. ⌜ locatedSaid r ≡ position anchor count time tolerance ⌝ }
 {
     let counted = count as i64 - anchor.count as i64;
     let elapsed = time as i64 - anchor.time as i64;

@@ -4,7 +4,7 @@ use position::Located;
 use reorder_session::Session;
 use window::Window;
 ghost use mathlib.Core.Path.{_≡_};
-ghost use Rattle.position.specs.Position.{said};
+ghost use Rattle.position.specs.Position.{locatedSaid};
 ghost use Rattle.window.specs.Window.{heldAt};
 ghost use Rattle.reorder_rules.specs.Offer.{admitted};
 ghost use Rattle.reorder_session.specs.Calls.{offerDue};
@@ -18,7 +18,7 @@ pub enum OfferAnswer {
 
 // Where a packet is held, by its position: refusals 21 to 25, or the position.
 fn position_answer(window: Window, located: Located) -> OfferAnswer
-    ensures { λ r. ⌜ offerSaid r ≡ admitted (window .start) (heldAt window) (said located) ⌝ }
+    ensures { λ r. ⌜ offerSaid r ≡ admitted (window .start) (heldAt window) (locatedSaid located) ⌝ }
 {
     let Located::At(p) = located else {
         return OfferAnswer::Refused(21);

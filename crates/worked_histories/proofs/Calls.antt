@@ -8,7 +8,7 @@ use mathlib.Core.Logic.{_⊎_, inl, inr}
 use native.Mathlib.Decide.{ℕ-discrete}
 use native.Mathlib.Omega.{arith}
 use lib.ListN.{length, length-replicate}
-use Rattle.octets.specs.Refusal.{Said, refused, answered, say, numberSaid}
+use Rattle.octets.specs.Refusal.{Said, refused, answered, say, refusalIn}
 use Rattle.octets.proofs.Ladder.{answer-said}
 use Rattle.packet.specs.Fields.{fieldsOf}
 use Rattle.window.specs.Window.{heldAt, holding}
@@ -307,34 +307,34 @@ module _ {offered : Bool} {w : State} {s : Session} {es : List Event} {cs : List
   unfolding Supposed
   then-take h p e rest =
       let a : offerOf (w .session) (w .store) (packetAt p) .said ≡ answered p = offer-said k (packetAt p) ∙ e in
-      before (ap numberSaid a) (λ r. (h, (λ f. let z : _≡_ {A = ℕ} 0 1 = cc in omega arith), r)) (rest (after-take k p e))
+      before (ap refusalIn a) (λ r. (h, (λ f. let z : _≡_ {A = ℕ} 0 1 = cc in omega arith), r)) (rest (after-take k p e))
 
   pub then-no-take : WaitsAfter offered w → (b : List ℕ) (n : ℕ) → (n ≡ 25 → ⊥) → offerSaid s 34560 b ≡ refused n
       → (Stands (step w (offer b)) s es → Comes true (step w (offer b)) cs ns t fs) → Comes offered w (offer b ∷ cs) (n ∷ ns) t fs
   unfolding Supposed
   then-no-take h b n far e rest =
       let a : offerOf (w .session) (w .store) b .said ≡ refused n = offer-said k b ∙ e in
-      before (ap numberSaid a) (λ r. (h, (λ f. far (cc)), r)) (rest (after-no-take k b n e))
+      before (ap refusalIn a) (λ r. (h, (λ f. far (cc)), r)) (rest (after-no-take k b n e))
 
   pub then-serve : (n x : ℕ) (y : Said Turn) → saysServe s n ≡ y
       → (Stands (step w (serve (filled n x))) (turnedAll s (turnOf y)) (es ++ turnsTold packetAt (turnOf y)) → Comes offered (step w (serve (filled n x))) cs ns t fs)
-      → Comes offered w (serve (filled n x) ∷ cs) (numberSaid y ∷ ns) t fs
+      → Comes offered w (serve (filled n x) ∷ cs) (refusalIn y ∷ ns) t fs
   unfolding Supposed
-  then-serve n x y e rest = before (ap numberSaid (serve-said k n x ∙ e)) (λ r. r) (rest (after-serve k n x y e))
+  then-serve n x y e rest = before (ap refusalIn (serve-said k n x ∙ e)) (λ r. r) (rest (after-serve k n x y e))
 
   pub then-drain : (n x budget : ℕ) (y : Said (List Turn)) → saysDrain s n budget ≡ y
       → (Stands (step w (drain (filled n x) budget)) (turnedAll s (turnsOf y)) (es ++ turnsTold packetAt (turnsOf y))
       → Comes offered (step w (drain (filled n x) budget)) cs ns t fs)
-      → Comes offered w (drain (filled n x) budget ∷ cs) (numberSaid y ∷ ns) t fs
+      → Comes offered w (drain (filled n x) budget ∷ cs) (refusalIn y ∷ ns) t fs
   unfolding Supposed
-  then-drain n x budget y e rest = before (ap numberSaid (drain-said k n x budget ∙ e)) (λ r. r) (rest (after-drain k n x budget y e))
+  then-drain n x budget y e rest = before (ap refusalIn (drain-said k n x budget ∙ e)) (λ r. r) (rest (after-drain k n x budget y e))
 
   pub then-no-pass : (m : ℕ) → saysPass s ≡ refused m → (Stands (step w pass) s es → Comes offered (step w pass) cs ns t fs)
       → Comes offered w (pass ∷ cs) (m ∷ ns) t fs
   unfolding Supposed
   then-no-pass m e rest =
       let a : passOf (w .session) .said ≡ refused m = pass-said k ∙ e in
-      before (ap numberSaid a) (λ r. ((m, a), r)) (rest (after-no-pass k m e))
+      before (ap refusalIn a) (λ r. ((m, a), r)) (rest (after-no-pass k m e))
 
 -- ---- events that are not in a list
 

@@ -5,13 +5,13 @@ use Prim.Native.Nat.{ℕ, _*_}
 use mathlib.Core.Path.{_≡_}
 use mathlib.Core.List.{List, [], _∷_}
 use lib.ListN.{replicate}
-use Rattle.octets.specs.Refusal.{numberSaid}
+use Rattle.octets.specs.Refusal.{refusalIn}
 use Rattle.reorder.specs.Offer.{offerOf, noSession}
 use Rattle.reorder_serve.specs.Serve.{serveOf, drainOf}
 use Rattle.reorder_pass.specs.Pass.{passOf}
 use Rattle.reorder_histories.specs.Histories.{Call, offer, serve, drain, pass, took, gave, called-missing, State, step, Consumer, atStart, atEnd}
 use Rattle.reorder_histories.specs.Histories.{OpenedAlike, Served, CalledMissing, StillHeld}
-use Rattle.worked.specs.Numbers.{timedPacket}
+use Rattle.worked.specs.Cases.{timedPacket}
 
 -- the packet of position p where the opening packet has count 0 and time 0: its own count is p and its time 14 p
 abbrev pub packetAt : ℕ → List ℕ
@@ -29,10 +29,10 @@ noPacket = 1 ∷ 2 ∷ 3 ∷ []
 
 -- the number that a call is refused with, 0 where it isn't
 abbrev pub refusal : State → Call → ℕ
-refusal w (offer b) = numberSaid (offerOf (w .session) (w .store) b .said)
-refusal w (serve out) = numberSaid (serveOf (w .session) out (w .store) .said)
-refusal w (drain out budget) = numberSaid (drainOf (w .session) out (w .store) budget .said)
-refusal w pass = numberSaid (passOf (w .session) .said)
+refusal w (offer b) = refusalIn (offerOf (w .session) (w .store) b .said)
+refusal w (serve out) = refusalIn (serveOf (w .session) out (w .store) .said)
+refusal w (drain out budget) = refusalIn (drainOf (w .session) out (w .store) budget .said)
+refusal w pass = refusalIn (passOf (w .session) .said)
 
 -- that of each call, in order
 unfoldable pub refusals : State → List Call → List ℕ

@@ -1,9 +1,9 @@
 -- The number of each case; the bytes are the writer's.
 use mathlib.Core.Path.{sym, ap, _∙_}
-use Rattle.octets.specs.Refusal.{numberSaid}
+use Rattle.octets.specs.Refusal.{refusalIn}
 use Rattle.octets.proofs.Ladder.{number-say}
 use Rattle.packet_writer.specs.declared.PacketWritten.{PacketWritten}
-use Rattle.packet_writer.specs.Write.{saidWritten}
+use Rattle.packet_writer.specs.Write.{writtenSaid}
 use borrow.Author.Needs.{needs}
 use Rattle.mola.proofs.mola_write_packet.Statement.{statement}
 use Rattle.mola.proofs.mola_write_packet.Tie as tie
@@ -23,7 +23,7 @@ same-length c = search needs
 returns : tie.Need-returns
 returns c =
     let w = c .before .before .before .before .before .write-packet .ensures in
-    (ap (λ (a : PacketWritten). numberSaid (saidWritten a)) (sym (c .before .written .given .1)) ∙ ap numberSaid (w .0) ∙ number-say _ tt, w .1)
+    (ap (λ (a : PacketWritten). refusalIn (writtenSaid a)) (sym (c .before .written .given .1)) ∙ ap refusalIn (w .0) ∙ number-say _ tt, w .1)
 
 same-length-2 : tie.Need-same-length-2
 same-length-2 c = search needs
@@ -31,7 +31,7 @@ same-length-2 c = search needs
 returns-2 : tie.Need-returns-2
 returns-2 c =
     let w = c .before .before .before .before .write-packet .ensures in
-    (ap (λ (a : PacketWritten). numberSaid (saidWritten a)) (sym (c .enum-told .given .1)) ∙ ap numberSaid (w .0) ∙ number-say _ tt, w .1)
+    (ap (λ (a : PacketWritten). refusalIn (writtenSaid a)) (sym (c .enum-told .given .1)) ∙ ap refusalIn (w .0) ∙ number-say _ tt, w .1)
 
 pub mola-write-packet-spec : {M : Type 1} → statement M
 mola-write-packet-spec =

@@ -22,6 +22,9 @@ cast-first c = omega arith
 loop-holds : tie.Need-loop-holds Inv-loop μ-loop
 loop-holds c = (c .first-bin .ensures, omega arith, (omega arith, refl))
 
+cast-loop : tie.Need-cast-loop Inv-loop μ-loop
+cast-loop c = omega arith
+
 add-starts : tie.Need-add-starts Inv-loop μ-loop
 add-starts c = omega arith
 
@@ -65,6 +68,7 @@ bin-starts-spec =
     first-bin-requires
     cast-first
     loop-holds
+    cast-loop
     add-starts
     mul-starts
     cast-starts

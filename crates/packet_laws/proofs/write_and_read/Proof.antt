@@ -5,8 +5,8 @@ use mathlib.Core.List.{List}
 use denote.Ref.{now}
 use Rattle.octets.proofs.Ladder.{say-refused, say-answered, after-refused, after-done, answer-said, refusal-said}
 use Rattle.packet.specs.Fields.{noArrays}
-use Rattle.packet.specs.Read.{readSaid, readArrays}
-use Rattle.packet_writer.specs.Write.{packetOf, saidWritten}
+use Rattle.packet.specs.Read.{readDue, readArrays}
+use Rattle.packet_writer.specs.Write.{packetOf, writtenSaid}
 use Rattle.packet_laws.specs.RoundTrip.{Typed}
 use Rattle.packet_laws.proofs.ReadBack.{read-back}
 use borrow.Author.Needs.{needs}
@@ -26,7 +26,7 @@ returns : tie.Need-returns
 returns c =
     let a = c .before .before .before .before .before .before .before .before .before .args in
     let w = c .before .before .before .before .before .write-packet .ensures in
-    let q = refusal-said _ _ tt (sym (ap saidWritten (c .before .written .given .1)) ∙ w .0) in
+    let q = refusal-said _ _ tt (sym (ap writtenSaid (c .before .written .given .1)) ∙ w .0) in
     (say-refused _ _ (a .fields) (q .0) (λ z. q .1 (sym (q .0) ∙ z)), after-refused _ _ (a .arrays) noArrays (q .0) (λ z. q .1 (sym (q .0) ∙ z)), w .1)
 
 enum-told : tie.Need-enum-told
@@ -58,12 +58,12 @@ returns-2 c =
     let s = c .before .before .before .before .before .before .before .before .before .before in
     let a = s .args in
     let w = c .before .before .before .before .before .before .write-packet .ensures in
-    let q = answer-said _ tt _ (sym (ap saidWritten (c .before .before .enum-told .given .1)) ∙ w .0) in
+    let q = answer-said _ tt _ (sym (ap writtenSaid (c .before .before .enum-told .given .1)) ∙ w .0) in
     let p : List ℕ = packetOf (a .fields) (a .arrays) (now (a .carried)) (a .sum-word) in
     let e = w .1 ∙ sym (after-done _ p (now (a .out)) p (q .0) refl) in
     let t = read-back (a .fields) (a .arrays) (now (a .carried)) (a .sum-word) (now (a .out)) (typed s) (q .0) in
     let r = c .read-packet .ensures in (
-      r .0 ∙ ap (λ (l : List ℕ). readSaid l (a .sum-word)) e ∙ t .0 ∙ say-answered _ (a .fields) (a .fields) (q .0) refl,
+      r .0 ∙ ap (λ (l : List ℕ). readDue l (a .sum-word)) e ∙ t .0 ∙ say-answered _ (a .fields) (a .fields) (q .0) refl,
       r .1 ∙ ap (λ (l : List ℕ). readArrays l (a .sum-word)) e ∙ t .1 ∙ after-done _ (a .arrays) noArrays (a .arrays) (q .0) refl,
       w .1,
     )

@@ -4,12 +4,12 @@ use mathlib.Core.Path.{_≡_, sym, ap, _∙_}
 use mathlib.Core.Bool.{true, not}
 use native.Mathlib.Omega.{arith}
 use denote.Ref.{now}
-use Rattle.octets.specs.Refusal.{numberSaid}
+use Rattle.octets.specs.Refusal.{refusalIn}
 use Rattle.octets.proofs.Ladder.{pass, fail, pass-eq, fail-eq, answer-said}
 use Rattle.packet_check.specs.Refusal.{readRefusal}
 use Rattle.packet.specs.declared.PacketAnswer.{PacketAnswer}
 use Rattle.packet.specs.Fields.{fieldsOf}
-use Rattle.packet.specs.Read.{said}
+use Rattle.packet.specs.Read.{packetSaid}
 use Rattle.window.specs.Window.{heldAt}
 use Rattle.reorder_rules.specs.Offer.{admitted, offerRefusal, offerDue}
 use Rattle.reorder_rules.proofs.Said.{refusing-now, refusing-next}
@@ -61,7 +61,7 @@ unfolding offerRefusal offerDue
 returns-3 c =
     let t = c .before .enum-told .given .1 in
     let a = c .before .before .before in
-    let h = handed-on _ _ _ _ (ap said (sym t) ∙ a .read-answer .ensures) (c .refusal-number .ensures ∙ ap (λ (x : PacketAnswer). numberSaid (said x)) t) in
+    let h = handed-on _ _ _ _ (ap packetSaid (sym t) ∙ a .read-answer .ensures) (c .refusal-number .ensures ∙ ap (λ (x : PacketAnswer). refusalIn (packetSaid x)) t) in
     refusing-now _ _ _ (ready (a .before .before) _ (h .0)) (h .1)
 
 locate-requires : tie.Need-locate-requires
@@ -77,7 +77,7 @@ returns-4 c =
     let a = c .before .before .before .before .before in
     let s = a .before .before .before .before .before .before .args .session in
     let b = now (a .before .before .before .before .before .before .args .packet) in
-    let r = answer-said (readRefusal b (s .«sum_word»)) (fieldsOf b) _ (ap said (sym t) ∙ a .read-answer .ensures) in
+    let r = answer-said (readRefusal b (s .«sum_word»)) (fieldsOf b) _ (ap packetSaid (sym t) ∙ a .read-answer .ensures) in
     refusing-next _ _ _ (sym (ready (a .before .before) 0 (sym (r .0))))
     (c .position-answer .ensures ∙ ap (admitted (s .window .start) (heldAt (s .window))) (c .before .locate .ensures ∙ ap (positionOf s) (r .1)))
 

@@ -10,7 +10,7 @@ use mir.ValLaws.{toZ-ofZ}
 use Rattle.numbers.proofs.Ranges.{widened}
 use Rattle.octets.specs.Refusal.{answered}
 use Rattle.position.specs.declared.Located.{Located}
-use Rattle.position.specs.Position.{said}
+use Rattle.position.specs.Position.{locatedSaid}
 use Rattle.window.specs.declared.Window.{Window}
 use Rattle.window.specs.Window.{heldAt}
 use Rattle.reorder_rules.specs.Offer.{admitted}
@@ -30,8 +30,8 @@ module _ (k : tie.After-known-told) where
   fits-i64 : SFits w64 at
   fits-i64 = search needs
 
-  told : admitted (window .start) (heldAt window) (answered at) ≡ admitted (window .start) (heldAt window) (said (k .before .before .before .args .located))
-  told = ap (λ (l : Located). admitted (window .start) (heldAt window) (said l)) (sym (k .before .located .given .1))
+  told : admitted (window .start) (heldAt window) (answered at) ≡ admitted (window .start) (heldAt window) (locatedSaid (k .before .before .before .args .located))
+  told = ap (λ (l : Located). admitted (window .start) (heldAt window) (locatedSaid l)) (sym (k .before .located .given .1))
 
 -- the tests passed, and what `is_held` answers
 top : (c : tie.Else1) → ltZ (pos 999999) (at (c .before)) ≡ false
@@ -57,7 +57,7 @@ enum-told c = search needs
 
 returns : tie.Need-returns
 unfolding admitted
-returns c = ap (λ (l : Located). admitted (c .before .before .args .window .start) (heldAt (c .before .before .args .window)) (said l)) (sym (c .enum-told .given .1))
+returns c = ap (λ (l : Located). admitted (c .before .before .args .window .start) (heldAt (c .before .before .args .window)) (locatedSaid l)) (sym (c .enum-told .given .1))
 
 returns-2 : tie.Need-returns-2
 returns-2 c =

@@ -4,13 +4,13 @@ use mathlib.Core.Path.{_≡_, refl, sym, ap, _∙_}
 use native.Mathlib.Omega.{arith}
 use denote.Ref.{now}
 use lib.ListN.{length}
-use Rattle.octets.specs.Refusal.{numberSaid}
+use Rattle.octets.specs.Refusal.{refusalIn}
 use Rattle.octets.proofs.Ladder.{pass-eq, fail-eq, pass-within, fail-below, fail-above, say-refused, say-answered, answer-said}
 use Rattle.packet_check.specs.Refusal.{readRefusal}
 use Rattle.packet_check.proofs.Accept.{accepted}
 use Rattle.packet.specs.declared.PacketAnswer.{PacketAnswer}
 use Rattle.packet.specs.Fields.{fieldsOf}
-use Rattle.packet.specs.Read.{said}
+use Rattle.packet.specs.Read.{packetSaid}
 use Rattle.reorder_offer.specs.Opening.{opened, openRefusal, openDue, openOf}
 use Rattle.reorder_rules.proofs.Said.{stays, leaves}
 use Rattle.reorder_session.specs.Session.{withWindow}
@@ -57,7 +57,7 @@ unfolding openRefusal openDue openOf
 returns-4 c =
     let t = c .before .enum-told .given .1 in
     let a = c .before .before .before in
-    let h = handed-on _ _ _ _ (ap said (sym t) ∙ a .read-answer .ensures) (c .refusal-number .ensures ∙ ap (λ (x : PacketAnswer). numberSaid (said x)) t) in
+    let h = handed-on _ _ _ _ (ap packetSaid (sym t) ∙ a .read-answer .ensures) (c .refusal-number .ensures ∙ ap (λ (x : PacketAnswer). refusalIn (packetSaid x)) t) in
     stays _ _ _ _ _ _ (say-refused {A = ℕ} _ _ 0 (ready (a .before) _ (h .0)) (h .1))
 
 put-packet-requires : tie.Need-put-packet-requires
@@ -65,7 +65,7 @@ put-packet-requires c κs =
     let t = c .before .before .answer .given .1 in
     let a = c .before .before .before .before in
     let k = a .before .before .before .before .before .before .args in
-    let r = answer-said (readRefusal (now (k .packet)) (k .sum-word)) (fieldsOf (now (k .packet))) _ (ap said (sym t) ∙ a .read-answer .ensures) in
+    let r = answer-said (readRefusal (now (k .packet)) (k .sum-word)) (fieldsOf (now (k .packet))) _ (ap packetSaid (sym t) ∙ a .read-answer .ensures) in
     accepted (now (k .packet)) (k .sum-word) (r .0) .size
 
 returns-5 : tie.Need-returns-5
@@ -75,7 +75,7 @@ returns-5 c =
     let t = w .before .before .before .answer .given .1 in
     let a = w .before .before .before .before .before in
     let k = a .before .before .before .before .before .before .args in
-    let r = answer-said (readRefusal (now (k .packet)) (k .sum-word)) (fieldsOf (now (k .packet))) _ (ap said (sym t) ∙ a .read-answer .ensures) in
+    let r = answer-said (readRefusal (now (k .packet)) (k .sum-word)) (fieldsOf (now (k .packet))) _ (ap packetSaid (sym t) ∙ a .read-answer .ensures) in
     leaves _ _ _ _ 0 _ _ _ (say-answered {A = ℕ} _ 0 0 (sym (ready (a .before) 0 (sym (r .0)))) refl)
     (λ i. withWindow (opened (r .1 i) (k .threshold) (k .sum-word)) (c .first .ensures i)) (w .put-packet .ensures)
 

@@ -23,7 +23,7 @@ use Rattle.reorder_turn.specs.Turn.{packet, missing, waiting, turn, turns, turn
 use Rattle.reorder_turn.specs.Refusals.{serveRefusal, drainRefusal}
 use Rattle.reorder_pass.specs.Pass.{passRefusal}
 use Rattle.reorder_histories.specs.Histories.{Event, took, gave, called-missing, offers}
-use Rattle.worked.specs.Numbers.{counted, timedPacket}
+use Rattle.worked.specs.Cases.{counted, timedPacket}
 use Rattle.worked_histories.specs.Examples.{packetAt, filled, noPacket, lateLess, lateMore, absentLess, absentMore, begun}
 use Rattle.worked_histories.proofs.Calls.{Comes, first, open-said, open-stands, waits, no-more, not-given, none-missing}
 use Rattle.worked_histories.proofs.Calls.{then-take, then-no-take, then-serve, then-drain, then-no-pass}

@@ -6,9 +6,11 @@ use mir.Syntax.{tyInt, w8, w16, w32}
 use mir.Val.{vint, vstruct, vcons, vnil}
 use prog.Memory.{size, align, fieldOf}
 use Rattle.packet.specs.declared.PacketFields.{PacketFields}
+use Rattle.mola.specs.declared.PacketRead.{PacketRead}
 use Rattle.reorder_c.specs.declared.Answer.{Answer}
 use Rattle.reorder_c.specs.declared.Count.{Count}
 use Rattle.packet.proofs.PacketFields.Laws as In-fields
+use Rattle.mola.proofs.PacketRead.Laws as In-read
 use Rattle.reorder_c.proofs.Answer.Laws as In-answer
 use Rattle.reorder_c.proofs.Count.Laws as In-count
 
@@ -49,6 +51,12 @@ pub record StructLayouts : Type 0 where
   pub transmitter-threshold : fieldOf In-fields.mir 12 ≡ some (tyInt w8, 22)
   pub tracking-status : fieldOf In-fields.mir 13 ≡ some (tyInt w8, 23)
   pub hstart : fieldOf In-fields.mir 14 ≡ some (tyInt w16, 24)
+  -- a packet that is read
+  pub read-size : size In-read.mir ≡ 32
+  pub read-aligned : align In-read.mir ≡ 4
+  pub read-order : (r : PacketRead) → In-read.lowered r ≡ vstruct (vcons (vint w32 (r .refusal)) (vcons (In-fields.lowered (r .fields)) vnil))
+  pub read-refusal : fieldOf In-read.mir 0 ≡ some (tyInt w32, 0)
+  pub read-fields : fieldOf In-read.mir 1 ≡ some (In-fields.mir, 4)
   -- an answer
   pub answer-size : size In-answer.mir ≡ 12
   pub answer-aligned : align In-answer.mir ≡ 4

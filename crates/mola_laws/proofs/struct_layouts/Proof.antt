@@ -1,7 +1,7 @@
 -- The machine's layout, computed.
 use mathlib.Core.Path.{refl}
-use Rattle.mola.proofs.struct_layouts.Statement.{statement}
-use Rattle.mola.proofs.struct_layouts.Tie as tie
+use Rattle.mola_laws.proofs.struct_layouts.Statement.{statement}
+use Rattle.mola_laws.proofs.struct_layouts.Tie as tie
 
 returns : tie.Need-returns
 returns c =
@@ -24,6 +24,11 @@ returns c =
       transmitter-threshold = refl;
       tracking-status = refl;
       hstart = refl;
+      read-size = refl;
+      read-aligned = refl;
+      read-order = λ r. refl;
+      read-refusal = refl;
+      read-fields = refl;
       answer-size = refl;
       answer-aligned = refl;
       answer-order = λ a. refl;

@@ -19,9 +19,9 @@ use Rattle.reorder_session.specs.Outcome.{refusing}
 use Rattle.reorder_admission.specs.Admission.{positionRefusal, admitted, offerRefusal, offerSaid}
 use Rattle.reorder_turn.specs.Turn.{turn}
 use Rattle.reorder_turn.specs.Refusals.{serveRefusal}
-use Rattle.worked.specs.Numbers.{counted, timedPacket, zeroPacket, zeroRecord, qualityRecord, timeRecord}
-use Rattle.worked.proofs.worked_numbers.Statement.{statement}
-use Rattle.worked.proofs.worked_numbers.Tie as tie
+use Rattle.worked.specs.Cases.{counted, timedPacket, zeroPacket, zeroRecord, qualityRecord, timeRecord}
+use Rattle.worked.proofs.worked_cases.Statement.{statement}
+use Rattle.worked.proofs.worked_cases.Tie as tie
 
 returns : tie.Need-returns
 unfolding put refuse_unless_else_ _then_ wordSum zeroed packetSum firstBin headerRefusal readRefusal histogramOf unsummed packetOf fieldsOf counted timedPacket zeroPacket zeroRecord qualityRecord timeRecord bitsSet qualityOf timeOf recordRefusal say position heldAt someAmong someHeld pastEnd broken refusing positionRefusal admitted offerRefusal offerSaid turn serveRefusal
@@ -68,5 +68,5 @@ returns c =
       position-32 = refl;
     }
 
-pub worked-numbers-spec : {M : Type 1} → statement M
-worked-numbers-spec = tie.close (tie.spec returns)
+pub worked-cases-spec : {M : Type 1} → statement M
+worked-cases-spec = tie.close (tie.spec returns)

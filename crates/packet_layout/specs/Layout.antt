@@ -1,4 +1,5 @@
 -- Document 01, "Packet layout", the table: packet bytes count from 0. docs/LAYOUTS.md has each column's name in source document 004.
+use Prim.Native.Nat.{ℕ}
 use mathlib.Core.List.{List, [], _∷_}
 use Rattle.layout.specs.Column.{Column, column}
 
@@ -66,7 +67,10 @@ hstart = column 104 2 1
 abbrev pub carried : Column
 carried = column 106 1 974
 
--- the whole packet
+-- the whole packet, 1,080 bytes
+abbrev pub packetSize : ℕ
+packetSize = 1080
+
 abbrev pub packetColumns : List Column
 packetColumns =
     packetId ∷ sequenceControl ∷ packetLength ∷ coarseTime ∷ fineTime ∷ packetType ∷ temperatures ∷ readings ∷ statusRegister ∷ softwareVersion ∷ ramFlagWord

@@ -10,12 +10,13 @@ use Rattle.octets.specs.Refusal.{refused, answered}
 use Rattle.octets.specs.Table.{table}
 use Rattle.layout.specs.Column.{Column}
 use Rattle.checksum.specs.Sum.{wordAt}
+use Rattle.packet_layout.specs.Layout.{carried}
 use Rattle.packet_bins.specs.Bins.{binByte, firstBin}
 use Rattle.packet_check.specs.Refusal.{readRefusal}
 use Rattle.packet.specs.Fields.{noArrays}
 use Rattle.packet.specs.declared.PacketFields.{PacketFields}
 use Rattle.packet_writer.specs.Write.{packetOf}
-use Rattle.pedr_layout.specs.Layout.{_u1, timeWhole, timeMicros, qualityNumber, qualityCounter, frameIndex}
+use Rattle.pedr_layout.specs.Layout.{_u1, timeWhole, timeMicros, qualityNumber, qualityCounter, frameIndex, recordSize}
 use Rattle.pedr_flags.specs.Quality.{goodShot, qualityOf}
 use Rattle.pedr_flags.specs.Descriptor.{byteOfBit, placeOfBit, failed}
 use Rattle.pedr_flags.specs.Encoder.{encoderOf}
@@ -53,7 +54,7 @@ counted n t = record {
 
 -- the packet with this count and time, the sum's place 53, all other free bytes zero
 unfoldable pub timedPacket : ℕ → ℕ → List ℕ
-timedPacket n t = packetOf (counted n t) noArrays (replicate 974 0) 53
+timedPacket n t = packetOf (counted n t) noArrays (replicate (carried .items) 0) 53
 
 unfoldable pub zeroPacket : ℕ → List ℕ
 zeroPacket n = timedPacket n 0
@@ -68,7 +69,7 @@ s with-minus x at c = s with (256 ^ (c .width) - x) at c
 
 -- a record of zeros but for frame index 1; with this quality number and counter; with this time, both parts negative
 unfoldable pub zeroRecord : List ℕ
-zeroRecord = replicate 776 0 with 1 at frameIndex
+zeroRecord = replicate recordSize 0 with 1 at frameIndex
 
 unfoldable pub qualityRecord : ℕ → ℕ → List ℕ
 qualityRecord q n = zeroRecord with q at qualityNumber with n at qualityCounter
@@ -92,15 +93,15 @@ holdingOnly p = record {
   window = holding (record { next = 0; marks = 0 }) p;
 }
 
-pub record Numbers : Type 0 where
+pub record Cases : Type 0 where
   -- count 0, place 53, all free bytes zero: sum 35 + 49,152 + 1,073 = 50,260
   pub sum-of-count-0 : wordAt (zeroPacket 0) 53 ≡ 50260
   pub sum-of-count-0-by-words : 35 + 49152 + 1073 ≡ 50260
   pub count-0-accepted : readRefusal (zeroPacket 0) 53 ≡ 0
   -- count 16,383: sum 1,107, and 1,108 gives 10
   pub sum-of-count-16383 : wordAt (zeroPacket 16383) 53 ≡ 1107
-  pub sum-1107-accepted : readRefusal (put (zeroPacket 16383) 106 (octetsOf 2 1107)) 53 ≡ 0
-  pub sum-1108-refused : readRefusal (put (zeroPacket 16383) 106 (octetsOf 2 1108)) 53 ≡ 10
+  pub sum-1107-accepted : readRefusal (put (zeroPacket 16383) (53 * 2) (octetsOf 2 1107)) 53 ≡ 0
+  pub sum-1108-refused : readRefusal (put (zeroPacket 16383) (53 * 2) (octetsOf 2 1108)) 53 ≡ 10
   -- HSTART 7, 3, 2, 1 give first bin 4, 0, 0, 65,534
   pub hstart-7 : firstBin 7 ≡ 4
   pub hstart-3 : firstBin 3 ≡ 0
