@@ -1,5 +1,5 @@
--- What a walk needs of the struct that is lent, whatever struct it is: its declaration, its fields' laws, that it owns only facts,
--- and that it is Copy.
+-- What a walk needs of the struct that is lent, whatever struct it is: its declaration, its fields' laws, that it owns only facts, and that it is
+-- Copy. A value of it is called the session in the other files.
 use mathlib.Core.Path.{_≡_, refl, sym, subst}
 use mathlib.Core.List.{[], _∷_}
 use mir.Syntax.{Ty}
