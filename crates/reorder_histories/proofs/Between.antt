@@ -20,7 +20,7 @@ use Rattle.reorder_session.specs.Calls.{turn, turned, shown, turns, turnedAll, 
 use Rattle.reorder_rules.proofs.Ready.{ServeReady, serve-ready, DrainReady, drain-ready}
 use Rattle.reorder_laws.specs.Serves.{answerAt, piece}
 use Rattle.reorder_laws.proofs.Pieces.{piece-same, slot-length, shown-packet}
-use Rattle.reorder_rules.proofs.Turns.{turns-split, turns-most}
+use Rattle.reorder_rules.proofs.Turns.{Split, turns-split, turns-most}
 use Rattle.reorder_histories.specs.History as Any
 use Rattle.reorder_histories.specs.History.{Call, offer, serve, drain, pass, offers, Event, gave, called-missing, turnsTell, serveTells, drainTells, passTells}
 use Rattle.reorder_histories.specs.Histories.{State, step, run, WaitsAfter, NotTooFar, PassRefused, Supposed}
@@ -151,7 +151,7 @@ all-turns (suc n) σ = go (turns-split single n s) (all-turns n (afterTurn σ))
       events = (σ .events ++ turnTold (slot (σ .store)) (turn s)) ++ turnsTold (slot (σ .store)) (turns n (oneTurn s));
     }
 
-    go : ((turn s ≡ waiting) × (turns (suc n) s ≡ [])) ⊎ (turns (suc n) s ≡ turn s ∷ turns n (oneTurn s)) → ByTurns (afterTurn σ) rest
+    go : Split single n s → ByTurns (afterTurn σ) rest
         → ByTurns σ (after (turns (suc n) s))
     go (inl e) r = (0, ap after (e .1) ∙ same-state σ)
     go (inr e) r = (

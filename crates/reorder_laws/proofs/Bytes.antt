@@ -24,7 +24,7 @@ use Rattle.reorder_offer.specs.Opening.{openDue, openOf}
 use Rattle.reorder_rules.proofs.Said.{outcome-cases, left, left-refused}
 use Rattle.reorder_rules.proofs.Taken.{Taken, taken-offer}
 use Rattle.reorder_rules.specs.Turn.{Turn, packet, missing, waiting}
-use Rattle.reorder_rules.proofs.Turns.{turns-split}
+use Rattle.reorder_rules.proofs.Turns.{Split, turns-split}
 use Rattle.reorder_turn.proofs.Turns.{Shows, shows-packet, shows-missing, shows-waiting, shows}
 use Rattle.reorder_rules.proofs.Ready.{serve-ready, pass-ready}
 use Rattle.reorder_offer.proofs.Opening.{accepted-opening}
@@ -161,8 +161,7 @@ turns-give (suc n) s store p b h = go (turns-split single n s) (turn-gives s sto
     later ts (inl k) = inl k
     later ts (inr k) = inr (suc (k .0), k .1)
 
-    go : ((turn s ≡ waiting) × (turns (suc n) s ≡ [])) ⊎ (turns (suc n) s ≡ turn s ∷ turns n (turned s (turn s)))
-        → Holds (turned s (turn s)) store p b ⊎ (turn s ≡ packet p)
+    go : Split single n s → Holds (turned s (turn s)) store p b ⊎ (turn s ≡ packet p)
         → (Holds (turned s (turn s)) store p b → next (turns n (turned s (turn s)))) → Result (turns (suc n) s)
     go (inl w) k r = subst Result (sym (w .1)) (inl h)
     go (inr e) (inl k) r = subst Result (sym e) (later (turns n (turned s (turn s))) (r k))

@@ -17,16 +17,12 @@ use Rattle.reorder_rules.specs.Outcome.{outcome}
 use Rattle.reorder_rules.proofs.Said.{left}
 use Rattle.reorder_rules.specs.Turn.{Turn, packet, waiting}
 use Rattle.reorder_session.specs.Calls.{turn, turned, shown, turns, turnedAll, shownAll, serveRefusal, drainRefusal, serveOf, drainOf}
-use Rattle.reorder_rules.proofs.Turns.{turns-stop, turns-split, turns-most}
+use Rattle.reorder_rules.proofs.Turns.{turns-stop, Split, turns-split, turns-most}
 use Rattle.reorder_rules.proofs.Ready.{DrainReady, drain-ready}
 use Rattle.reorder_session.proofs.Whole.{Whole, whole, unbroken}
 use Rattle.reorder_laws.specs.Serves.{serves, sessionAfter, saidBy, bytesBy, answerAt, piece, DrainsAreServes}
 use Rattle.reorder_laws.proofs.Kept.{whole-turned}
 use Rattle.reorder_laws.proofs.Pieces.{piece-same, slot-length, shown-packet, shown-other}
-
--- the two ways that a budget of turns can begin
-abbrev Split : ℕ → Session → Type 0
-Split b s = ((turn s ≡ waiting) × (turns (suc b) s ≡ [])) ⊎ (turns (suc b) s ≡ turn s ∷ turns b (turned s (turn s)))
 
 -- what is said by b serves that answer ts
 abbrev padded : ℕ → List Turn → List (Said Turn)
@@ -61,7 +57,7 @@ module _ (store : List ℕ) (size : length store ≡ 34560) (one : List ℕ) (ro
       f : Fine s
       f = fine s v
 
-      go : Split b s → ((t : Session) → Whole t → map saidBy (serves b t one store) ≡ padded b (turns b t))
+      go : Split single b s → ((t : Session) → Whole t → map saidBy (serves b t one store) ≡ padded b (turns b t))
           → map saidBy (serves (suc b) s one store) ≡ padded (suc b) (turns (suc b) s)
       go (inl w) r =
           let same : serveOf s one store .session ≡ s = f .session ∙ ap (turned s) (w .0) in
@@ -86,7 +82,7 @@ module _ (store : List ℕ) (size : length store ≡ 34560) (one : List ℕ) (ro
       f : Fine s
       f = fine s v
 
-      go : Split b s → ((t : Session) → Whole t → sessionAfter t (serves b t one store) ≡ turnedAll t (turns b t))
+      go : Split single b s → ((t : Session) → Whole t → sessionAfter t (serves b t one store) ≡ turnedAll t (turns b t))
           → sessionAfter s (serves (suc b) s one store) ≡ turnedAll s (turns (suc b) s)
       go (inl w) r =
           let same : serveOf s one store .session ≡ s = f .session ∙ ap (turned s) (w .0) in
@@ -108,7 +104,7 @@ module _ (store : List ℕ) (size : length store ≡ 34560) (one : List ℕ) (ro
       at : ℕ → Type 0
       at j = piece (getD (map bytesBy (serves (suc b) s one store)) j []) 0 ≡ slot store p
 
-      go : Split b s → (j : ℕ) → answerAt (turns (suc b) s) j ≡ packet p
+      go : Split single b s → (j : ℕ) → answerAt (turns (suc b) s) j ≡ packet p
           → ((t : Session) → Whole t → (j p : ℕ) → answerAt (turns b t) j ≡ packet p → piece (getD (map bytesBy (serves b t one store)) j []) 0 ≡ slot store p) → at j
       go (inl w) j h r =
           let q : waiting ≡ packet p = sym (ap (λ (ts : List Turn). answerAt ts j) (w .1)) ∙ h in

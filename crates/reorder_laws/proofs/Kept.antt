@@ -27,7 +27,7 @@ use Rattle.reorder_rules.proofs.Said.{outcome-cases, left}
 use Rattle.reorder_rules.proofs.Taken.{taken-offer}
 use Rattle.reorder_rules.specs.Turn.{Turn, packet, missing, waiting}
 use Rattle.reorder_turn.proofs.Turns.{Shows, shows-packet, shows-missing, shows-waiting, shows}
-use Rattle.reorder_rules.proofs.Turns.{turns-split}
+use Rattle.reorder_rules.proofs.Turns.{Split, turns-split}
 use Rattle.reorder_rules.proofs.Ready.{pass-ready}
 use Rattle.reorder_session.proofs.Whole.{Whole, whole, unbroken}
 use Rattle.reorder_offer.proofs.Opening.{accepted-opening}
@@ -109,8 +109,7 @@ unfolding Turn-rules.turns Turn-rules.turnedAll
 keeps-turns zero s = keeps-none s
 keeps-turns (suc b) s = go (turns-split single b s) (keeps-turns b (turned s (turn s)))
   where
-    go : ((turn s ≡ waiting) × (turns (suc b) s ≡ [])) ⊎ (turns (suc b) s ≡ turn s ∷ turns b (turned s (turn s)))
-        → Keeps (turned s (turn s)) (turnedAll (turned s (turn s)) (turns b (turned s (turn s)))) → Keeps s (turnedAll s (turns (suc b) s))
+    go : Split single b s → Keeps (turned s (turn s)) (turnedAll (turned s (turn s)) (turns b (turned s (turn s)))) → Keeps s (turnedAll s (turns (suc b) s))
     go (inl w) r = subst (λ (ts : List Turn). Keeps s (turnedAll s ts)) (sym (w .1)) (keeps-none s)
     go (inr e) r = subst (λ (ts : List Turn). Keeps s (turnedAll s ts)) (sym e) (keeps-then s (turned s (turn s)) _ (keeps-turned s) r)
 

@@ -74,7 +74,13 @@ pub fn open_offer_drain(
         (reportSaid (r .answer)) (r .session) (now (store .exit)) (now (out .exit))
         × Reports (r .answer) (reportSaid (r .answer)) ⌝ }
 {
-    let opened = reorder_local::open(reorder_offer::no_session(), store, first, threshold, sum_word);
+    let opened = reorder_local::open(
+        reorder_offer::no_session(),
+        store,
+        first,
+        threshold,
+        sum_word,
+    );
     let offered = reorder_local::offer(opened.session, store, packet);
-    reorder_local::drain(offered.session, out, store, window::POSITIONS)
+    reorder_local::drain(offered.session, out, store, reorder_rules::POSITIONS)
 }

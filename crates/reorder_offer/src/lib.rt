@@ -1,7 +1,9 @@
 // The opening of a reorder buffer, and the offer of a packet (document 01, "The rack").
 use packet::PacketAnswer;
+use packet_layout::PACKET_SIZE;
 use position::Anchor;
 use reorder_admission::OfferAnswer;
+use reorder_rules::POSITIONS;
 use reorder_session::Session;
 ghost use mathlib.Core.Path.{_≡_};
 ghost use lib.ListN.{length};
@@ -21,7 +23,7 @@ fn put_packet(packet: &[u8], at: usize, store: &mut [u8])
     requires { ⌜ length (now packet) ≡ 1080 ⌝ }
     ensures { λ _. ⌜ now (store .exit) ≡ put (now (store .entry)) at (now (packet .entry)) ⌝ }
 {
-    octets::write_into(&packet[..1080], at, store);
+    octets::write_into(&packet[..PACKET_SIZE], at, store);
 }
 
 // Holds the packet at its position, in the position's 1,080 bytes of the store.
@@ -32,7 +34,7 @@ pub fn offer(session: Session, store: &mut [u8], packet: &[u8]) -> Offered
     let OfferAnswer::Held(p) = answer else {
         return Offered { answer, session };
     };
-    put_packet(packet, 1080 * (p % 32) as usize, store);
+    put_packet(packet, PACKET_SIZE * (p % POSITIONS) as usize, store);
     let window = window::hold(session.window, p);
     Offered {
         answer,

@@ -51,11 +51,13 @@ module _ {S : Type 0} (B : Buffer S) where
   turns-more b s waiting e n = absurd n
 
   -- the turns stop, or one comes before the others
-  pub turns-split : (b : ℕ) (s : S) → ((turn B s ≡ waiting) × (turns B (suc b) s ≡ [])) ⊎ (turns B (suc b) s ≡ turn B s ∷ turns B b (turned B s (turn B s)))
+  abbrev pub Split : ℕ → S → Type 0
+  Split b s = ((turn B s ≡ waiting) × (turns B (suc b) s ≡ [])) ⊎ (turns B (suc b) s ≡ turn B s ∷ turns B b (turned B s (turn B s)))
+
+  pub turns-split : (b : ℕ) (s : S) → Split b s
   turns-split b s = go (moves-or (turn B s))
     where
-      go : (turn B s ≡ waiting) ⊎ Moves (turn B s)
-          → ((turn B s ≡ waiting) × (turns B (suc b) s ≡ [])) ⊎ (turns B (suc b) s ≡ turn B s ∷ turns B b (turned B s (turn B s)))
+      go : (turn B s ≡ waiting) ⊎ Moves (turn B s) → Split b s
       go (inl e) = inl (e, turns-stop (suc b) s e)
       go (inr n) = inr (turns-more b s (turn B s) refl n)
 
@@ -64,8 +66,7 @@ module _ {S : Type 0} (B : Buffer S) where
   turns-most zero s = omega arith
   turns-most (suc b) s = go (turns-split b s) (turns-most b (turned B s (turn B s)))
     where
-      go : ((turn B s ≡ waiting) × (turns B (suc b) s ≡ [])) ⊎ (turns B (suc b) s ≡ turn B s ∷ turns B b (turned B s (turn B s)))
-          → length (turns B b (turned B s (turn B s))) ≤ b → length (turns B (suc b) s) ≤ suc b
+      go : Split b s → length (turns B b (turned B s (turn B s))) ≤ b → length (turns B (suc b) s) ≤ suc b
       go (inl e) r = subst (λ (ts : List Turn). length ts ≤ suc b) (sym (e .1)) (omega arith)
       go (inr e) r = subst (λ (ts : List Turn). length ts ≤ suc b) (sym e) (omega arith)
 

@@ -5,7 +5,8 @@ use mathlib.Core.List.{List}
 use lib.Dec.{eqb, leb}
 use lib.ListN.{length}
 use Rattle.octets.specs.Refusal.{refuse_unless_else_, say}
-use Rattle.reorder_rules.specs.Sizes.{packetSize, positions, storeSize}
+use Rattle.packet_layout.specs.Layout.{packetSize}
+use Rattle.reorder_rules.specs.Sizes.{positions, storeSize}
 use Rattle.reorder_rules.specs.Outcome.{Outcome, outcome}
 use Rattle.reorder_rules.specs.Buffer.{Buffer}
 use Rattle.reorder_rules.specs.Turn.{Turn, turn, turned, shown, turns, turnedAll, shownAll}

@@ -1,9 +1,6 @@
 -- The numbers of document 01's section "The rack".
 use Prim.Native.Nat.{ℕ, _*_}
-
--- a packet's bytes
-abbrev pub packetSize : ℕ
-packetSize = 1080
+use Rattle.packet_layout.specs.Layout.{packetSize}
 
 -- "A rack of 32 places"
 abbrev pub positions : ℕ

@@ -3,7 +3,7 @@ use Prim.Native.Nat.{ℕ, zero, suc, _+_, _*_}
 use mathlib.Core.Bool.{Bool, true, false, cond}
 use mathlib.Core.List.{List, [], _∷_}
 use Rattle.octets.specs.Bytes.{put}
-use Rattle.reorder_rules.specs.Sizes.{packetSize}
+use Rattle.packet_layout.specs.Layout.{packetSize}
 use Rattle.reorder_rules.specs.Buffer.{Buffer}
 
 -- the packet at a position, a missing position, or Waiting

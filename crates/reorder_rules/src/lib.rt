@@ -1,8 +1,11 @@
 // Document 01's rules of the reorder buffer ("The rack"), over what any session says of itself, and their laws. No code: each kind of session has
 // its calls in crates of its own.
 
-// Held bytes live in a lent store of so many bytes: 1,080 for each of 32 positions.
-pub const STORE_SIZE: usize = 34_560;
+// How many positions can be held.
+pub const POSITIONS: u32 = 32;
+
+// Held bytes live in a lent store of so many bytes: a packet's for each position.
+pub const STORE_SIZE: usize = POSITIONS as usize * packet_layout::PACKET_SIZE;
 
 // The last position that is served, signed as positions are worked out.
 pub const LAST_POSITION: i64 = 999_999;

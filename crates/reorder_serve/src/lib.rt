@@ -1,4 +1,6 @@
 // Serving the reorder buffer in order: serve and drain (document 01, "The rack").
+use packet_layout::PACKET_SIZE;
+use reorder_rules::POSITIONS;
 use reorder_session::Session;
 use reorder_turn::Description;
 use reorder_turn::ServeAnswer;
@@ -46,8 +48,12 @@ fn step(session: Session, out: &mut [u8], store: &[u8], i: u32) -> Served
     let window = session.window;
     let next = window.start;
     if window::is_start_held(window) {
-        let from = 1080 * (next % 32) as usize;
-        octets::write_into(&store[from..from + 1080], 1080 * i as usize, out);
+        let from = PACKET_SIZE * (next % POSITIONS) as usize;
+        octets::write_into(
+            &store[from..from + PACKET_SIZE],
+            PACKET_SIZE * i as usize,
+            out,
+        );
         return Served {
             answer: ServeAnswer::Packet(next),
             session: reorder_session::with_window(session, window::free(window)),

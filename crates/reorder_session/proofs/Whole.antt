@@ -1,11 +1,13 @@
 -- A session that isn't broken, as facts about its fields.
 use Prim.Native.Nat.{ℕ, _≤_}
 use mathlib.Core.Path.{_≡_, refl}
-use mathlib.Core.Bool.{true, false}
+use mathlib.Core.Bool.{true, false, not}
 use native.Mathlib.Decide.{decLe}
 use native.Mathlib.Omega.{arith}
-use borrow.Author.Tests.{ltb-false, le-ltb}
+use borrow.Author.Tests.{ltb-false, le-ltb, le-leb, not-false}
 use lib.Dec.{ltb}
+use Rattle.octets.proofs.Ladder.{within-true}
+use Rattle.packet_layout.specs.SumWord.{isSumWord}
 use Rattle.window.specs.Window.{heldAt, someHeld}
 use Rattle.window.proofs.Tests.{or-neither}
 use Rattle.window.proofs.Held.{held-none, none-held}
@@ -26,16 +28,16 @@ unfolding broken pastEnd
 whole s e =
     let c1 = or-neither (ltb 16383 (s .anchor .count)) _ e in
     let c2 = or-neither (outside 1 31 (s .threshold)) _ (c1 .1) in
-    let c3 = or-neither (outside 53 539 (s .«sum_word»)) _ (c2 .1) in
+    let c3 = or-neither (not (isSumWord (s .«sum_word»))) _ (c2 .1) in
     let c4 = or-neither (ltb 1000000 (s .window .start)) _ (c3 .1) in
     let h = or-neither (ltb (s .threshold) 1) _ (c2 .0) in
-    let w = or-neither (ltb (s .«sum_word») 53) _ (c3 .0) in
+    let w = within-true 53 539 (s .«sum_word») (not-false (isSumWord (s .«sum_word»)) (c3 .0)) in
     record {
       count = ltb-false _ _ (c1 .0);
       threshold-least = ltb-false _ _ (h .0);
       threshold-most = ltb-false _ _ (h .1);
-      word-least = ltb-false _ _ (w .0);
-      word-most = ltb-false _ _ (w .1);
+      word-least = w .0;
+      word-most = w .1;
       next-most = ltb-false _ _ (c4 .0);
       held-most = λ p k. most p k (c4 .1) (decLe p 999999);
     }
@@ -52,8 +54,8 @@ unbroken s v =
       le-ltb 16383 (s .anchor .count) (v .count),
       le-ltb (s .threshold) 1 (v .threshold-least),
       le-ltb 31 (s .threshold) (v .threshold-most),
-      le-ltb (s .«sum_word») 53 (v .word-least),
-      le-ltb 539 (s .«sum_word») (v .word-most),
+      le-leb 53 (s .«sum_word») (v .word-least),
+      le-leb (s .«sum_word») 539 (v .word-most),
       le-ltb 1000000 (s .window .start) (v .next-most),
       f,
     ) refl

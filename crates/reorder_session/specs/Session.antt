@@ -1,12 +1,15 @@
 -- Document 01, "The rack" and "Refusal numbers": the session.
 use Prim.Native.Nat.{ℕ, _*_, _%_}
-use mathlib.Core.Bool.{Bool, _||_}
+use mathlib.Core.Bool.{Bool, not, _||_}
 use mathlib.Core.List.{List}
 use lib.Dec.{ltb}
 use Rattle.octets.specs.Bytes.{part, put}
 use Rattle.window.specs.declared.Window.{Window}
 use Rattle.window.specs.Window.{heldAt, someHeld, holding, freed, skipped}
-use Rattle.reorder_rules.specs.Sizes.{packetSize, positions, endPosition}
+use Rattle.packet_layout.specs.Layout.{packetSize}
+use Rattle.packet_layout.specs.Header.{mostCount}
+use Rattle.packet_layout.specs.SumWord.{isSumWord}
+use Rattle.reorder_rules.specs.Sizes.{positions, endPosition}
 use Rattle.reorder_rules.specs.Buffer.{Buffer}
 use Rattle.reorder_session.specs.declared.Session.{Session}
 
@@ -20,7 +23,7 @@ pastEnd w = ltb endPosition (w .start) || someHeld w endPosition
 
 -- 30: session broken: c0 over 16,383, H or place out of range, next over 1,000,000, or a held position over 999,999
 unfoldable pub broken : Session → Bool
-broken s = ltb 16383 (s .anchor .count) || (outside 1 31 (s .threshold) || (outside 53 539 (s .«sum_word») || pastEnd (s .window)))
+broken s = ltb mostCount (s .anchor .count) || (outside 1 31 (s .threshold) || (not (isSumWord (s .«sum_word»)) || pastEnd (s .window)))
 
 abbrev pub withWindow : Session → Window → Session
 withWindow s w = record { anchor = s .anchor; «sum_word» = s .«sum_word»; threshold = s .threshold; window = w }

@@ -4,6 +4,13 @@ use window::Window;
 ghost use mathlib.Core.Path.{_≡_};
 ghost use Rattle.reorder_session.specs.Session.{pastEnd, broken, withWindow};
 
+// The packet's numbers, in the width of the session's.
+const MOST_COUNT: u32 = packet_layout::MOST_COUNT as u32;
+
+const FIRST_SUM_WORD: u32 = packet_layout::FIRST_SUM_WORD as u32;
+
+const LAST_SUM_WORD: u32 = packet_layout::LAST_SUM_WORD as u32;
+
 // What a reorder buffer of one consumer keeps between calls; the held bytes live in a store that the caller lends. All its numbers have 32 bits, so
 // that no byte of it is padding. The window starts at next.
 #[repr(C)]
@@ -31,8 +38,9 @@ pub fn is_broken(session: Session) -> bool
     let count = session.anchor.count;
     let threshold = session.threshold;
     let sum_word = session.sum_word;
-    if (16_383 < count)
-        | (((threshold < 1) | (31 < threshold)) | ((sum_word < 53) | (539 < sum_word)))
+    if (MOST_COUNT < count)
+        | (((threshold < 1) | (31 < threshold))
+            | ((sum_word < FIRST_SUM_WORD) | (LAST_SUM_WORD < sum_word)))
     {
         return true;
     }

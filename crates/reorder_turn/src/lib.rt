@@ -65,7 +65,7 @@ pub fn serve_refusal(session: Session, store_size: usize, out_size: usize) -> u8
     if store_size != reorder_rules::STORE_SIZE {
         return 27;
     }
-    if out_size < 1080 {
+    if out_size < packet_layout::PACKET_SIZE {
         return 29;
     }
     0
@@ -84,7 +84,7 @@ pub fn drain_refusal(session: Session, store_size: usize, out_size: usize, budge
     if out_size != reorder_rules::STORE_SIZE {
         return 29;
     }
-    if window::POSITIONS < budget {
+    if reorder_rules::POSITIONS < budget {
         return 31;
     }
     0

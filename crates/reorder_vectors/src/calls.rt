@@ -4,8 +4,8 @@ use crate::cases;
 use crate::registers;
 use crate::registers::SIZE;
 use crate::show;
-use reorder::Offered;
 use reorder_admission::OfferAnswer;
+use reorder_offer::Offered;
 use reorder_pass::PassAnswer;
 use reorder_serve::DrainAnswer;
 use reorder_session::Session;
@@ -54,7 +54,7 @@ fn call_with(
     let threshold = registers::threshold(r);
     let sum_word = registers::sum_word(r);
     match cases::call(row) {
-        1 => reorder::open(store, packet, threshold, sum_word),
+        1 => reorder_offer::open(store, packet, threshold, sum_word),
         2 => reorder_local::open(session, store, packet, threshold, sum_word),
         _ => reorder_local::offer(session, store, packet),
     }

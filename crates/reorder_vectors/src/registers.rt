@@ -12,16 +12,16 @@ pub(crate) fn fresh() -> [u64; SIZE] {
 
 pub(crate) fn session(r: &[u64; SIZE]) -> Session {
     let anchor = Anchor {
-        count: (r[0] % 65536) as u16,
+        count: (r[0] % 4_294_967_296) as u32,
         time: (r[1] % 4_294_967_296) as u32,
     };
     let window = Window {
-        next: (r[4] % 4_294_967_296) as u32,
+        start: (r[4] % 4_294_967_296) as u32,
         marks: (r[5] % 4_294_967_296) as u32,
     };
     Session {
         anchor,
-        sum_word: (r[2] % 65536) as u16,
+        sum_word: (r[2] % 4_294_967_296) as u32,
         threshold: (r[3] % 4_294_967_296) as u32,
         window,
     }
@@ -34,7 +34,7 @@ pub(crate) fn keep(session: Session, r: &mut [u64; SIZE]) {
     r[1] = anchor.time as u64;
     r[2] = session.sum_word as u64;
     r[3] = session.threshold as u64;
-    r[4] = window.next as u64;
+    r[4] = window.start as u64;
     r[5] = window.marks as u64;
 }
 
@@ -59,8 +59,8 @@ pub(crate) fn threshold(r: &[u64; SIZE]) -> u32 {
     (r[9] % 4_294_967_296) as u32
 }
 
-pub(crate) fn sum_word(r: &[u64; SIZE]) -> u16 {
-    (r[10] % 65536) as u16
+pub(crate) fn sum_word(r: &[u64; SIZE]) -> u32 {
+    (r[10] % 4_294_967_296) as u32
 }
 
 // The word where packets have their sum; it is one of a packet's 540.

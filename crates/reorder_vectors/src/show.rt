@@ -24,7 +24,7 @@ pub(crate) fn session(s: Session) {
     entry(anchor.time as u64);
     entry(s.sum_word as u64);
     entry(s.threshold as u64);
-    entry(window.next as u64);
+    entry(window.start as u64);
     entry(window.marks as u64);
 }
 

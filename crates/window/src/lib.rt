@@ -5,9 +5,6 @@ ghost use Prim.Native.Nat.{_+_, _%_, _^_};
 ghost use Rattle.numbers.specs.Bit.{clearBit};
 ghost use Rattle.window.specs.Window.{heldAt, someHeld, holding, freed, skipped, firstWindow, noWindow, in32Bits, Rotated};
 
-// How many positions can be held.
-pub const POSITIONS: u32 = 32;
-
 // The first position of the window, and the marks: bit p mod 32 for position p.
 #[repr(C)]
 pub struct Window {

@@ -25,12 +25,10 @@ use Rattle.pedr_fields.specs.Fields.{timeOf}
 use Rattle.pedr_check.specs.Refusal.{recordRefusal}
 use Rattle.position.specs.declared.Anchor.{Anchor}
 use Rattle.position.specs.Position.{position, publishedTolerance}
-use Rattle.window.specs.Window.{holding}
+use Rattle.window.specs.Window.{holding, firstWindow}
 use Rattle.reorder_session.specs.declared.Session.{Session}
-use Rattle.reorder_admission.specs.Admission.{offerSaid}
-use Rattle.reorder.specs.Offer.{firstWindow}
-use Rattle.reorder_turn.specs.Turn.{missing, waiting, turn}
-use Rattle.reorder_turn.specs.Refusals.{serveRefusal}
+use Rattle.reorder_session.specs.Calls.{offerDue, turn, serveRefusal}
+use Rattle.reorder_rules.specs.Turn.{missing, waiting}
 
 -- the free fields of a packet with this count and coarse time, all others zero
 unfoldable pub counted : ℕ → ℕ → PacketFields
@@ -90,7 +88,7 @@ holdingOnly p = record {
   anchor = record { count = 0; time = 0 };
   «sum_word» = 53;
   threshold = 3;
-  window = holding (record { next = 0; marks = 0 }) p;
+  window = holding (record { start = 0; marks = 0 }) p;
 }
 
 pub record Cases : Type 0 where
@@ -134,16 +132,16 @@ pub record Cases : Type 0 where
   pub at-1229502 : position anchor 5 1229502 publishedTolerance ≡ answered (pos 16393)
   pub at-1003726 : position anchor 5 1003726 publishedTolerance ≡ answered (pos 9)
   pub at-1003727 : position anchor 5 1003727 publishedTolerance ≡ refused 21
-  pub offer-1000126 : offerSaid anchored 34560 (timedPacket 5 1000126) ≡ answered 9
-  pub offer-1003727 : offerSaid anchored 34560 (timedPacket 5 1003727) ≡ refused 21
+  pub offer-1000126 : offerDue anchored 34560 (timedPacket 5 1000126) ≡ answered 9
+  pub offer-1003727 : offerDue anchored 34560 (timedPacket 5 1003727) ≡ refused 21
   -- count 16,379 at 999,986 is -1: 23
   pub at-999986 : position anchor 16379 999986 publishedTolerance ≡ answered (negℤ (pos 1))
-  pub offer-999986 : offerSaid anchored 34560 (timedPacket 16379 999986) ≡ refused 23
+  pub offer-999986 : offerDue anchored 34560 (timedPacket 16379 999986) ≡ refused 23
   -- next 0, H 3, only position 2 held: Waiting; only 3 held: Missing 0
   pub serve-2-held : serveRefusal (holdingOnly 2) 34560 1080 ≡ 0
   pub only-2-held : turn (holdingOnly 2) ≡ waiting
   pub serve-3-held : serveRefusal (holdingOnly 3) 34560 1080 ≡ 0
   pub only-3-held : turn (holdingOnly 3) ≡ missing 0
   -- position 31 is held, 32 gives 25
-  pub position-31 : offerSaid (holdingOnly 2) 34560 (timedPacket 31 (14 * 31)) ≡ answered 31
-  pub position-32 : offerSaid (holdingOnly 2) 34560 (timedPacket 32 (14 * 32)) ≡ refused 25
+  pub position-31 : offerDue (holdingOnly 2) 34560 (timedPacket 31 (14 * 31)) ≡ answered 31
+  pub position-32 : offerDue (holdingOnly 2) 34560 (timedPacket 32 (14 * 32)) ≡ refused 25

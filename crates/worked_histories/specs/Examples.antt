@@ -6,10 +6,10 @@ use mathlib.Core.Path.{_≡_}
 use mathlib.Core.List.{List, [], _∷_}
 use lib.ListN.{replicate}
 use Rattle.octets.specs.Refusal.{refusalIn}
-use Rattle.reorder.specs.Offer.{offerOf, noSession}
-use Rattle.reorder_serve.specs.Serve.{serveOf, drainOf}
-use Rattle.reorder_pass.specs.Pass.{passOf}
-use Rattle.reorder_histories.specs.Histories.{Call, offer, serve, drain, pass, took, gave, called-missing, State, step, Consumer, atStart, atEnd}
+use Rattle.reorder_session.specs.Calls.{offerOf, serveOf, drainOf, passOf}
+use Rattle.reorder_offer.specs.Opening.{noSession}
+use Rattle.reorder_histories.specs.History.{Call, offer, serve, drain, pass, took, gave, called-missing}
+use Rattle.reorder_histories.specs.Histories.{State, step, Consumer, atStart, atEnd}
 use Rattle.reorder_histories.specs.Histories.{OpenedAlike, Served, CalledMissing, StillHeld}
 use Rattle.worked.specs.Cases.{timedPacket}
 
@@ -29,15 +29,15 @@ noPacket = 1 ∷ 2 ∷ 3 ∷ []
 
 -- the number that a call is refused with, 0 where it isn't
 abbrev pub refusal : State → Call → ℕ
-refusal w (offer b) = refusalIn (offerOf (w .session) (w .store) b .said)
-refusal w (serve out) = refusalIn (serveOf (w .session) out (w .store) .said)
-refusal w (drain out budget) = refusalIn (drainOf (w .session) out (w .store) budget .said)
-refusal w pass = refusalIn (passOf (w .session) .said)
+refusal σ (offer b) = refusalIn (offerOf (σ .session) (σ .store) b .said)
+refusal σ (serve out) = refusalIn (serveOf (σ .session) out (σ .store) .said)
+refusal σ (drain out budget) = refusalIn (drainOf (σ .session) out (σ .store) budget .said)
+refusal σ pass = refusalIn (passOf (σ .session) .said)
 
 -- that of each call, in order
 unfoldable pub refusals : State → List Call → List ℕ
-refusals w [] = []
-refusals w (c ∷ cs) = refusal w c ∷ refusals (step w c) cs
+refusals σ [] = []
+refusals σ (c ∷ cs) = refusal σ c ∷ refusals (step σ c) cs
 
 -- ---- position 1 comes late
 

@@ -1,7 +1,13 @@
 -- The tests of the fields, in the definition's order; past them the window decides.
 use mathlib.Core.Path.{_≡_, refl, sym, ap, _∙_}
-use mathlib.Core.Bool.{Bool, true, false, _||_}
-use lib.Dec.{ltb}
+use Prim.Native.Nat.{ℕ, _≤_}
+use native.Mathlib.Decide.{decLe}
+use native.Mathlib.Omega.{arith}
+use borrow.Author.Tests.{lt-ltb, le-ltb, le-leb, lt-leb}
+use mathlib.Core.Bool.{Bool, true, false, not, _&&_, _||_}
+use lib.Dec.{ltb, leb}
+use Rattle.octets.specs.Refusal.{within}
+use Rattle.packet_layout.specs.SumWord.{isSumWord}
 use Rattle.reorder_session.specs.declared.Session.{Session}
 use Rattle.reorder_session.specs.Session.{outside, pastEnd, broken}
 use borrow.Author.Needs.{needs}
@@ -14,10 +20,28 @@ joined true b c d = refl
 joined false true c d = refl
 joined false false c d = refl
 
+-- below is not from there on
+ltb-leb : (x y : ℕ) → ltb x y ≡ not (leb y x)
+ltb-leb x y = go (decLe y x)
+  where
+    go : Dec (y ≤ x) → ltb x y ≡ not (leb y x)
+    go (yes l) = le-ltb x y l ∙ sym (ap not (le-leb y x l))
+    go (no n) = lt-ltb x y (omega arith) ∙ sym (ap not (lt-leb y x (omega arith)))
+
+-- outside the bounds is not within them
+outside-is : (lo hi x : ℕ) → outside lo hi x ≡ not (within lo hi x)
+outside-is lo hi x = rw (ltb-leb x lo, ltb-leb hi x) (either (leb lo x) (leb x hi))
+  where
+    either : (a b : Bool) → (not a || not b) ≡ not (a && b)
+    either true b = refl
+    either false b = refl
+
 by-fields : (s : Session)
     → broken s ≡ ((ltb 16383 (s .anchor .count) || (outside 1 31 (s .threshold) || outside 53 539 (s .«sum_word»))) || pastEnd (s .window))
 unfolding broken
-by-fields s = joined (ltb 16383 (s .anchor .count)) (outside 1 31 (s .threshold)) (outside 53 539 (s .«sum_word»)) (pastEnd (s .window))
+by-fields s =
+    joined (ltb 16383 (s .anchor .count)) (outside 1 31 (s .threshold)) (not (isSumWord (s .«sum_word»))) (pastEnd (s .window))
+    ∙ ap (λ (b : Bool). (ltb 16383 (s .anchor .count) || (outside 1 31 (s .threshold) || b)) || pastEnd (s .window)) (sym (outside-is 53 539 (s .«sum_word»)))
 
 returns : tie.Need-returns
 returns c =

@@ -1,5 +1,8 @@
 -- Every row by computation.
 use mathlib.Core.Path.{refl}
+use Rattle.reorder_rules.specs.Turn as Turn-rules
+use Rattle.reorder_rules.specs.Serve as Serve-rules
+use Rattle.reorder_rules.specs.Offer as Offer-rules
 use Rattle.octets.specs.Bytes.{put}
 use Rattle.octets.specs.Refusal.{refuse_unless_else_, _then_, say}
 use Rattle.checksum.specs.Sum.{wordSum, zeroed, packetSum}
@@ -15,16 +18,15 @@ use Rattle.pedr_check.specs.Refusal.{recordRefusal}
 use Rattle.position.specs.Position.{position}
 use Rattle.window.specs.Window.{heldAt, someAmong, someHeld}
 use Rattle.reorder_session.specs.Session.{pastEnd, broken}
-use Rattle.reorder_session.specs.Outcome.{refusing}
-use Rattle.reorder_admission.specs.Admission.{positionRefusal, admitted, offerRefusal, offerSaid}
-use Rattle.reorder_turn.specs.Turn.{turn}
-use Rattle.reorder_turn.specs.Refusals.{serveRefusal}
+use Rattle.reorder_rules.specs.Outcome.{refusing}
+use Rattle.reorder_rules.specs.Offer.{positionRefusal, admitted}
+use Rattle.reorder_session.specs.Calls.{offerRefusal, offerDue, turn, serveRefusal}
 use Rattle.worked.specs.Cases.{counted, timedPacket, zeroPacket, zeroRecord, qualityRecord, timeRecord}
 use Rattle.worked.proofs.worked_cases.Statement.{statement}
 use Rattle.worked.proofs.worked_cases.Tie as tie
 
 returns : tie.Need-returns
-unfolding put refuse_unless_else_ _then_ wordSum zeroed packetSum firstBin headerRefusal readRefusal histogramOf unsummed packetOf fieldsOf counted timedPacket zeroPacket zeroRecord qualityRecord timeRecord bitsSet qualityOf timeOf recordRefusal say position heldAt someAmong someHeld pastEnd broken refusing positionRefusal admitted offerRefusal offerSaid turn serveRefusal
+unfolding put refuse_unless_else_ _then_ wordSum zeroed packetSum firstBin headerRefusal readRefusal histogramOf unsummed packetOf fieldsOf counted timedPacket zeroPacket zeroRecord qualityRecord timeRecord bitsSet qualityOf timeOf recordRefusal say position heldAt someAmong someHeld pastEnd broken refusing positionRefusal admitted Offer-rules.offerRefusal Offer-rules.offerDue Turn-rules.turn Serve-rules.serveRefusal
 returns c =
     record {
       sum-of-count-0 = refl;

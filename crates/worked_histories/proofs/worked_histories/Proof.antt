@@ -5,6 +5,10 @@ use mathlib.Core.Bool.{false}
 use mathlib.Core.List.{List, [], _∷_, List·Memᴰ, List·Memᴰ·head, List·Memᴰ·tail}
 use native.Mathlib.Omega.{arith}
 use lib.ListN.{length, length-replicate}
+use Rattle.reorder_rules.specs.Turn as Turn-rules
+use Rattle.reorder_rules.specs.Serve as Serve-rules
+use Rattle.reorder_rules.specs.Pass as Pass-rules
+use Rattle.reorder_rules.specs.Offer as Offer-rules
 use Rattle.octets.specs.Bytes.{put}
 use Rattle.octets.specs.Refusal.{refuse_unless_else_, _then_, refused, answered, say}
 use Rattle.checksum.specs.Sum.{wordSum, zeroed, packetSum}
@@ -16,13 +20,12 @@ use Rattle.position.specs.Position.{position}
 use Rattle.window.specs.Window.{heldAt, someAmong, someHeld}
 use Rattle.reorder_session.specs.declared.Session.{Session}
 use Rattle.reorder_session.specs.Session.{pastEnd, broken}
-use Rattle.reorder_session.specs.Outcome.{refusing}
-use Rattle.reorder_admission.specs.Admission.{positionRefusal, admitted, offerRefusal, offerSaid}
-use Rattle.reorder.specs.Offer.{opened, openRefusal, openSaid}
-use Rattle.reorder_turn.specs.Turn.{packet, missing, waiting, turn, turns, turnedAll}
-use Rattle.reorder_turn.specs.Refusals.{serveRefusal, drainRefusal}
-use Rattle.reorder_pass.specs.Pass.{passRefusal}
-use Rattle.reorder_histories.specs.Histories.{Event, took, gave, called-missing, offers}
+use Rattle.reorder_rules.specs.Outcome.{refusing}
+use Rattle.reorder_rules.specs.Offer.{positionRefusal, admitted}
+use Rattle.reorder_session.specs.Calls.{offerRefusal, offerDue, turn, turns, turnedAll, serveRefusal, drainRefusal, passRefusal}
+use Rattle.reorder_offer.specs.Opening.{opened, openRefusal, openDue}
+use Rattle.reorder_rules.specs.Turn.{packet, missing, waiting}
+use Rattle.reorder_histories.specs.History.{Event, took, gave, called-missing, offers}
 use Rattle.worked.specs.Cases.{counted, timedPacket}
 use Rattle.worked_histories.specs.Examples.{packetAt, filled, noPacket, lateLess, lateMore, absentLess, absentMore, begun}
 use Rattle.worked_histories.proofs.Calls.{Comes, first, open-said, open-stands, waits, no-more, not-given, none-missing}
@@ -34,7 +37,7 @@ use Rattle.worked_histories.proofs.worked_histories.Tie as tie
 
 -- a session with this threshold, next and marks
 abbrev session : ℕ → ℕ → ℕ → Session
-session h n m = record { anchor = record { count = 0; time = 0 }; «sum_word» = 53; threshold = h; window = record { next = n; marks = m } }
+session h n m = record { anchor = record { count = 0; time = 0 }; «sum_word» = 53; threshold = h; window = record { start = n; marks = m } }
 
 size : (x : ℕ) → length (filled 34560 x) ≡ 34560
 unfolding filled
@@ -42,22 +45,22 @@ size x = length-replicate {A = ℕ} 34560 x
 
 -- by the packet's position, and the threshold that it is offered to
 record Says : Type 0 where
-  opens-1 : openSaid 34560 (packetAt 0) 1 53 ≡ answered 0
-  opens-2 : openSaid 34560 (packetAt 0) 2 53 ≡ answered 0
-  opens-3 : openSaid 34560 (packetAt 0) 3 53 ≡ answered 0
+  opens-1 : openDue 34560 (packetAt 0) 1 53 ≡ answered 0
+  opens-2 : openDue 34560 (packetAt 0) 2 53 ≡ answered 0
+  opens-3 : openDue 34560 (packetAt 0) 3 53 ≡ answered 0
   session-opened : (h : ℕ) → opened (fieldsOf (packetAt 0)) h 53 ≡ first h
-  offer-2-to-1 : offerSaid (session 1 1 0) 34560 (packetAt 2) ≡ answered 2
-  offer-2-to-2 : offerSaid (session 2 0 1) 34560 (packetAt 2) ≡ answered 2
-  offer-2-to-3 : offerSaid (session 3 0 1) 34560 (packetAt 2) ≡ answered 2
-  offer-1-to-1 : offerSaid (session 1 3 0) 34560 (packetAt 1) ≡ refused 23
-  offer-1-to-2 : offerSaid (session 2 1 4) 34560 (packetAt 1) ≡ answered 1
-  offer-5-to-1 : offerSaid (session 1 3 0) 34560 (packetAt 5) ≡ answered 5
-  offer-5-to-3 : offerSaid (session 3 1 4) 34560 (packetAt 5) ≡ answered 5
-  offer-none-to-1 : offerSaid (session 1 3 0) 34560 noPacket ≡ refused 1
-  offer-none-to-2 : offerSaid (session 2 1 4) 34560 noPacket ≡ refused 1
+  offer-2-to-1 : offerDue (session 1 1 0) 34560 (packetAt 2) ≡ answered 2
+  offer-2-to-2 : offerDue (session 2 0 1) 34560 (packetAt 2) ≡ answered 2
+  offer-2-to-3 : offerDue (session 3 0 1) 34560 (packetAt 2) ≡ answered 2
+  offer-1-to-1 : offerDue (session 1 3 0) 34560 (packetAt 1) ≡ refused 23
+  offer-1-to-2 : offerDue (session 2 1 4) 34560 (packetAt 1) ≡ answered 1
+  offer-5-to-1 : offerDue (session 1 3 0) 34560 (packetAt 5) ≡ answered 5
+  offer-5-to-3 : offerDue (session 3 1 4) 34560 (packetAt 5) ≡ answered 5
+  offer-none-to-1 : offerDue (session 1 3 0) 34560 noPacket ≡ refused 1
+  offer-none-to-2 : offerDue (session 2 1 4) 34560 noPacket ≡ refused 1
 
 says : Says
-unfolding put refuse_unless_else_ _then_ say wordSum zeroed packetSum headerRefusal readRefusal histogramOf unsummed packetOf counted timedPacket fieldsOf position heldAt someAmong someHeld pastEnd broken refusing positionRefusal admitted offerRefusal offerSaid openRefusal openSaid
+unfolding put refuse_unless_else_ _then_ say wordSum zeroed packetSum headerRefusal readRefusal histogramOf unsummed packetOf counted timedPacket fieldsOf position heldAt someAmong someHeld pastEnd broken refusing positionRefusal admitted Offer-rules.offerRefusal Offer-rules.offerDue openRefusal openDue
 says =
     record {
       opens-1 = refl;
@@ -91,7 +94,7 @@ abbrev absentMoreEvents : List Event
 absentMoreEvents = took 0 (packetAt 0) ∷ took 2 (packetAt 2) ∷ gave 0 (packetAt 0) ∷ took 5 (packetAt 5) ∷ called-missing 1 ∷ gave 2 (packetAt 2) ∷ []
 
 late-less : Comes false (begun lateLess) (lateLess .calls) (0 ∷ 29 ∷ 0 ∷ 0 ∷ 1 ∷ 23 ∷ 0 ∷ []) (session 1 3 0) lateLessEvents
-unfolding refuse_unless_else_ say heldAt someAmong someHeld pastEnd broken turn turns turnedAll serveRefusal drainRefusal
+unfolding refuse_unless_else_ say heldAt someAmong someHeld pastEnd broken Turn-rules.turn Turn-rules.turns Turn-rules.turnedAll Serve-rules.serveRefusal Serve-rules.drainRefusal
 late-less =
     then-serve (open-stands lateLess (size 0) (says .opens-1) (says .session-opened 1)) 1080 0 (answered (packet 0)) refl (λ a.
     then-serve a 10 0 (refused 29) refl (λ b.
@@ -103,7 +106,7 @@ late-less =
     no-more g refl)))))))
 
 late-more : Comes false (begun lateMore) (lateMore .calls) (26 ∷ 0 ∷ 0 ∷ 31 ∷ 1 ∷ 0 ∷ 0 ∷ []) (session 2 3 0) lateMoreEvents
-unfolding refuse_unless_else_ say heldAt someAmong someHeld pastEnd broken turn turns turnedAll serveRefusal drainRefusal passRefusal
+unfolding refuse_unless_else_ say heldAt someAmong someHeld pastEnd broken Turn-rules.turn Turn-rules.turns Turn-rules.turnedAll Serve-rules.serveRefusal Serve-rules.drainRefusal Pass-rules.passRefusal
 late-more =
     then-no-pass (open-stands lateMore (size 255) (says .opens-2) (says .session-opened 2)) 26 refl (λ a.
     then-take a tt 2 (says .offer-2-to-2) (λ b.
@@ -115,7 +118,7 @@ late-more =
     no-more g refl)))))))
 
 absent-less : Comes false (begun absentLess) (absentLess .calls) (0 ∷ 0 ∷ 0 ∷ 0 ∷ 0 ∷ 0 ∷ []) (session 1 6 0) absentLessEvents
-unfolding refuse_unless_else_ say heldAt someAmong someHeld pastEnd broken turn turns turnedAll serveRefusal drainRefusal
+unfolding refuse_unless_else_ say heldAt someAmong someHeld pastEnd broken Turn-rules.turn Turn-rules.turns Turn-rules.turnedAll Serve-rules.serveRefusal Serve-rules.drainRefusal
 absent-less =
     then-serve (open-stands absentLess (size 0) (says .opens-1) (says .session-opened 1)) 1080 0 (answered (packet 0)) refl (λ a.
     then-take a tt 2 (says .offer-2-to-1) (λ b.
@@ -126,7 +129,7 @@ absent-less =
     no-more f refl))))))
 
 absent-more : Comes false (begun absentMore) (absentMore .calls) (0 ∷ 0 ∷ 0 ∷ 0 ∷ 0 ∷ 0 ∷ []) (session 3 3 32) absentMoreEvents
-unfolding refuse_unless_else_ say heldAt someAmong someHeld pastEnd broken turn turns turnedAll serveRefusal drainRefusal
+unfolding refuse_unless_else_ say heldAt someAmong someHeld pastEnd broken Turn-rules.turn Turn-rules.turns Turn-rules.turnedAll Serve-rules.serveRefusal Serve-rules.drainRefusal
 absent-more =
     then-take (open-stands absentMore (size 255) (says .opens-3) (says .session-opened 3)) tt 2 (says .offer-2-to-3) (λ a.
     then-drain a 34560 0 32 (answered (packet 0 ∷ [])) refl (λ b.
