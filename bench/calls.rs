@@ -21,7 +21,7 @@ use std::time::Instant;
 
 const THRESHOLD: u32 = 4;
 const BUDGET: u32 = 32;
-const SUM_WORD: u16 = PUBLISHED_SUM_WORD as u16;
+const SUM_WORD: u32 = PUBLISHED_SUM_WORD as u32;
 
 /// The rows of one packet take so many of the first ones in turn, all of them accepted: they stay in the nearest cache.
 const PACKETS: usize = 16;
@@ -71,12 +71,12 @@ impl Side for Verified {
         let read = mola::read_packet(first, PUBLISHED_SUM_WORD).fields;
         mola::Session {
             anchor: mola::Anchor {
-                count: read.count,
+                count: u32::from(read.count),
                 time: read.coarse_time,
             },
             sum_word: SUM_WORD,
             threshold: THRESHOLD,
-            window: mola::Window { next, marks },
+            window: mola::Window { start: next, marks },
         }
     }
 
@@ -152,7 +152,7 @@ mod called {
         store: &mut [u8],
         packet: &[u8],
         threshold: u32,
-        sum_word: u16,
+        sum_word: u32,
     ) -> Result<Answer, Refusal> {
         reference::open(session, store, packet, threshold, sum_word)
     }
@@ -205,7 +205,7 @@ macro_rules! reference_side {
                 let read = reference::read_packet(first, PUBLISHED_SUM_WORD).expect("valid");
                 reference::Session {
                     anchor: reference::Anchor {
-                        count: read.count,
+                        count: u32::from(read.count),
                         time: read.coarse_time,
                     },
                     sum_word: SUM_WORD,

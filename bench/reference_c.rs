@@ -130,7 +130,7 @@ fn inward(session: &mola::Session) -> Session {
         sum_word: session.sum_word,
         threshold: session.threshold,
         window: reference::Window {
-            next: session.window.next,
+            next: session.window.start,
             marks: session.window.marks,
         },
     }
@@ -145,7 +145,7 @@ fn outward(session: &Session) -> mola::Session {
         sum_word: session.sum_word,
         threshold: session.threshold,
         window: mola::Window {
-            next: session.window.next,
+            start: session.window.next,
             marks: session.window.marks,
         },
     }
@@ -166,7 +166,7 @@ pub unsafe extern "C" fn mola_open(
     packet: *const u8,
     packet_len: usize,
     threshold: u32,
-    sum_word: u16,
+    sum_word: u32,
 ) -> Answer {
     let store = from_raw_parts_mut(store, store_len);
     let packet = from_raw_parts(packet, packet_len);

@@ -86,7 +86,7 @@ static size_t deepest(void (*call)(void), uint32_t ahead)
     const uint32_t marks[] = {UINT32_MAX, 0, UINT32_C(1) << ahead};
     size_t most = 0;
     for (int i = 0; i < 3; i++) {
-        session.window.next = 0;
+        session.window.start = 0;
         session.window.marks = marks[i];
         size_t this = deeper(call, (uint8_t *)&session.threshold);
         if (most < this)

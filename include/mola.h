@@ -72,20 +72,20 @@ struct mola_read {
     struct mola_fields fields;
 };
 
-/* What a reorder buffer keeps between calls. */
+/* What a reorder buffer keeps between calls: six numbers of 32 bits, and no padding. The window starts at the next position to serve. */
 struct mola_anchor {
-    uint16_t count;
+    uint32_t count;
     uint32_t time;
 };
 
 struct mola_window {
-    uint32_t next;
+    uint32_t start;
     uint32_t marks;
 };
 
 struct mola_session {
     struct mola_anchor anchor;
-    uint16_t sum_word;
+    uint32_t sum_word;
     uint32_t threshold;
     struct mola_window window;
 };
@@ -130,7 +130,7 @@ uint8_t mola_check_record(const uint8_t *record, size_t record_len);
 /* Opens the session with this packet at position 0, and answers MOLA_PACKET with 0. Any values may stand in the session before. Gives 20, 27,
  * 1 to 10. */
 struct mola_answer mola_open(struct mola_session *session, uint8_t *store, size_t store_len, const uint8_t *packet, size_t packet_len,
-    uint32_t threshold, uint16_t sum_word);
+    uint32_t threshold, uint32_t sum_word);
 
 /* Holds the packet at its position, and answers MOLA_PACKET with that position. Gives 30, 27, 1, 3 to 10, 21 to 25. */
 struct mola_answer mola_offer(struct mola_session *session, uint8_t *store, size_t store_len, const uint8_t *packet, size_t packet_len);

@@ -295,7 +295,7 @@ impl Pair {
         lengths: Lengths,
         packet: &[u8],
         threshold: u32,
-        sum_word: u16,
+        sum_word: u32,
     ) -> mola::Answer {
         let (mut session, mut ours) = self.sessions();
         let (store, our_store) = self.store.lend(lengths.store);
@@ -467,7 +467,7 @@ fn own_session(session: &mola::Session) -> reference::Session {
         sum_word,
         threshold,
         window: reference::Window {
-            next: window.next,
+            next: window.start,
             marks: window.marks,
         },
     }

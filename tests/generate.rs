@@ -276,13 +276,13 @@ pub fn session(random: &Random, next: u32) -> Session {
     let servable = (next..next + 32).filter(|position| *position < END);
     Session {
         anchor: Anchor {
-            count: count(random),
+            count: u32::from(count(random)),
             time: random.u32() >> random.below(16),
         },
-        sum_word: sum_word(random) as u16,
+        sum_word: sum_word(random) as u32,
         threshold: random.within(1, 31) as u32,
         window: Window {
-            next,
+            start: next,
             marks: servable.map(|position| marks & 1 << (position % 32)).sum(),
         },
     }
@@ -293,18 +293,19 @@ pub fn spoil(random: &Random, session: &mut Session) {
     for _ in 0..random.pick(&[1, 1, 2]) {
         match random.below(7) {
             0 => {
-                session.anchor.count = random.pick(&[16_384, 16_385, 32_768, 65_535, random.u16()])
+                session.anchor.count =
+                    random.pick(&[16_384, 16_385, 32_768, 65_536, u32::MAX, random.u32(), 1 << 16 | 5])
             }
             1 => {
                 session.threshold =
                     random.pick(&[0, 32, 33, u32::MAX, random.u32(), 1 << 16 | 3, 31])
             }
-            2 => session.sum_word = random.pick(&[0, 52, 540, 65_535, random.u16(), 53, 539]),
+            2 => session.sum_word = random.pick(&[0, 52, 540, 65_535, u32::MAX, random.u32(), 1 << 16 | 70, 53, 539]),
             3 => {
                 let far = random.pick(&[u32::MAX, u32::MAX - 31, random.u32()]);
-                session.window.next = random.pick(&[END, END + 1, END + 16, far]);
+                session.window.start = random.pick(&[END, END + 1, END + 16, far]);
             }
-            4 => session.window.next = END - random.below(34) as u32,
+            4 => session.window.start = END - random.below(34) as u32,
             5 => {
                 session.window.marks = random.pick(&[1 << random.below(32), random.u32(), u32::MAX])
             }
@@ -317,13 +318,13 @@ pub fn spoil(random: &Random, session: &mut Session) {
 pub fn arbitrary_session(random: &Random) -> Session {
     Session {
         anchor: Anchor {
-            count: random.u16() >> random.below(16),
+            count: random.u32() >> random.below(32),
             time: random.u32(),
         },
-        sum_word: random.u16() >> random.below(16),
+        sum_word: random.u32() >> random.below(32),
         threshold: random.u32() >> random.below(32),
         window: Window {
-            next: random.u32() >> random.below(32),
+            start: random.u32() >> random.below(32),
             marks: random.u32() & random.u32() & random.u32(),
         },
     }

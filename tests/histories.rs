@@ -104,8 +104,8 @@ impl History {
             false => random.pick(&[1, 2, 3, 30, 31, random.within(1, 31) as u32]),
         };
         let sum_word = match self.defect(random) {
-            true => generate::wrong_sum_word(random) as u16,
-            false => sum_word as u16,
+            true => generate::wrong_sum_word(random) as u32,
+            false => sum_word as u32,
         };
         let lengths = Lengths {
             store: self.store_length(random),
@@ -160,7 +160,7 @@ impl History {
         // Both wrap where they leave their fields: such a clock seldom fits.
         let time = (i64::from(session.anchor.time) + 14 * position + late) as u32;
         let count = (i64::from(session.anchor.count) + position).rem_euclid(16_384) as u16;
-        let sum_word = match usize::from(session.sum_word) {
+        let sum_word = match session.sum_word as usize {
             sum_word @ 53..=539 => sum_word,
             _ => generate::sum_word(random),
         };
@@ -172,7 +172,7 @@ impl History {
     }
 
     fn position(&self, random: &Random) -> i64 {
-        let next = i64::from(self.pair.session.window.next);
+        let next = i64::from(self.pair.session.window.start);
         match random.below(24) {
             0 => next + random.pick(&[-1, 0, 31, 32]),
             1 => next - random.within(1, 600),

@@ -21,18 +21,19 @@ pub fn list(harness: &mut Harness, random: &Random) {
     let mut thresholds = [random.within(1, 31) as u32, random.within(1, 31) as u32];
     thresholds.sort();
     let sum_word = generate::sum_word(random);
+    let count = generate::count(random);
     let anchor = Anchor {
-        count: generate::count(random),
+        count: u32::from(count),
         time: random.u32() >> random.below(8),
     };
-    let first = generate::packet(random, anchor.count, anchor.time, sum_word);
+    let first = generate::packet(random, count, anchor.time, sum_word);
     let mut consumers = thresholds
-        .map(|threshold| Consumer::open(harness, random, &first, threshold, sum_word as u16));
+        .map(|threshold| Consumer::open(harness, random, &first, threshold, sum_word as u32));
     let spread = random.pick(&[2, 5, 12, 31]);
     for _ in 0..random.within(20, 160) {
         let reach = consumers
             .iter()
-            .map(|consumer| consumer.session.window.next)
+            .map(|consumer| consumer.session.window.start)
             .min()
             .unwrap_or(0);
         let Some(packet) = offered(random, anchor, reach, spread, sum_word) else {
@@ -84,7 +85,7 @@ impl Consumer {
         random: &Random,
         packet: &[u8],
         threshold: u32,
-        sum_word: u16,
+        sum_word: u32,
     ) -> Consumer {
         let mut consumer = Consumer {
             session: generate::arbitrary_session(random),
@@ -151,7 +152,7 @@ impl Consumer {
             out,
             ..
         } = self;
-        let next = session.window.next;
+        let next = session.window.start;
         let (function, refusal) = match random.below(4) {
             0 if is_held(session, next) => (PASS, mola::pass(session).refusal),
             1 => (
@@ -231,7 +232,7 @@ impl Consumer {
 
 /// Whether the position is in the window and marked.
 fn is_held(session: &Session, position: u32) -> bool {
-    let Window { next, marks } = session.window;
+    let Window { start: next, marks } = session.window;
     (next..=next + 31).contains(&position) && marks >> (position % 32) & 1 == 1
 }
 

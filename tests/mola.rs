@@ -32,14 +32,14 @@ pub struct Read {
 #[repr(C)]
 #[derive(Clone, Copy, Debug, Default, PartialEq, Eq)]
 pub struct Anchor {
-    pub count: u16,
+    pub count: u32,
     pub time: u32,
 }
 
 #[repr(C)]
 #[derive(Clone, Copy, Debug, Default, PartialEq, Eq)]
 pub struct Window {
-    pub next: u32,
+    pub start: u32,
     pub marks: u32,
 }
 
@@ -47,7 +47,7 @@ pub struct Window {
 #[derive(Clone, Copy, Debug, Default, PartialEq, Eq)]
 pub struct Session {
     pub anchor: Anchor,
-    pub sum_word: u16,
+    pub sum_word: u32,
     pub threshold: u32,
     pub window: Window,
 }
@@ -100,7 +100,7 @@ extern "C" {
         packet: *const u8,
         packet_len: usize,
         threshold: u32,
-        sum_word: u16,
+        sum_word: u32,
     ) -> Answer;
     fn mola_offer(
         session: *mut Session,
@@ -176,7 +176,7 @@ pub fn open(
     store: &mut [u8],
     packet: &[u8],
     threshold: u32,
-    sum_word: u16,
+    sum_word: u32,
 ) -> Answer {
     unsafe {
         mola_open(

@@ -257,7 +257,7 @@ fn quality(record: &[u8; RECORD]) -> u32 {
 /// The packet that opened the buffer, at position 0.
 #[derive(Clone, Copy, Debug, Default, PartialEq, Eq)]
 pub struct Anchor {
-    pub count: u16,
+    pub count: u32,
     pub time: u32,
 }
 
@@ -271,7 +271,7 @@ pub struct Window {
 #[derive(Clone, Copy, Debug, Default, PartialEq, Eq)]
 pub struct Session {
     pub anchor: Anchor,
-    pub sum_word: u16,
+    pub sum_word: u32,
     /// The reordering threshold, document 01's patience H.
     pub threshold: u32,
     pub window: Window,
@@ -326,9 +326,9 @@ impl Session {
     /// "Session broken: c0 over 16,383, H or place out of range, next over 1,000,000, or a held position over 999,999."
     fn is_broken(&self) -> bool {
         let Window { next, .. } = self.window;
-        self.anchor.count >= COUNTS
+        self.anchor.count >= u32::from(COUNTS)
             || !is_threshold(self.threshold)
-            || !SUM_WORDS.contains(&usize::from(self.sum_word))
+            || !SUM_WORDS.contains(&(self.sum_word as usize))
             || next > END
             || self
                 .window
@@ -359,17 +359,17 @@ pub fn open(
     store: &mut [u8],
     packet: &[u8],
     threshold: u32,
-    sum_word: u16,
+    sum_word: u32,
 ) -> Result<Answer, Refusal> {
     if !is_threshold(threshold) {
         return Err(20);
     }
     let store: &mut [u8; STORE] = store.try_into().map_err(|_| 27)?;
-    let packet = accept(packet, usize::from(sum_word))?;
+    let packet = accept(packet, sum_word as usize)?;
     store[slot(0)].copy_from_slice(packet);
     *session = Session {
         anchor: Anchor {
-            count: count_of(packet),
+            count: u32::from(count_of(packet)),
             time: time_of(packet),
         },
         sum_word,
@@ -388,7 +388,7 @@ pub fn offer(session: &mut Session, store: &mut [u8], packet: &[u8]) -> Result<A
         return Err(30);
     }
     let store: &mut [u8; STORE] = store.try_into().map_err(|_| 27)?;
-    let packet = accept(packet, usize::from(session.sum_word))?;
+    let packet = accept(packet, session.sum_word as usize)?;
     let position = position(session.anchor, count_of(packet), time_of(packet)).ok_or(21)?;
     let position = free_position(&session.window, position)?;
     store[slot(position)].copy_from_slice(packet);

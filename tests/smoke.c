@@ -9,7 +9,7 @@ _Static_assert(offsetof(struct mola_session, anchor.count) == 0, "place of ancho
 _Static_assert(offsetof(struct mola_session, anchor.time) == 4, "place of anchor.time");
 _Static_assert(offsetof(struct mola_session, sum_word) == 8, "place of sum_word");
 _Static_assert(offsetof(struct mola_session, threshold) == 12, "place of threshold");
-_Static_assert(offsetof(struct mola_session, window.next) == 16, "place of window.next");
+_Static_assert(offsetof(struct mola_session, window.start) == 16, "place of window.start");
 _Static_assert(offsetof(struct mola_session, window.marks) == 20, "place of window.marks");
 _Static_assert(sizeof(struct mola_fields) == 28, "size of the fields");
 _Static_assert(offsetof(struct mola_fields, count) == 2 && offsetof(struct mola_fields, coarse_time) == 4, "places of count and time");
@@ -99,7 +99,7 @@ static void history(void)
     EXPECT(is(mola_open(&session, store, sizeof store, packet, sizeof packet, 32, MOLA_SUM_WORD), 20, MOLA_NOTHING, 0));
     EXPECT(is(mola_open(&session, store, sizeof store, packet, sizeof packet, 3, MOLA_SUM_WORD), 0, MOLA_PACKET, 0));
     EXPECT(session.anchor.count == 16380 && session.anchor.time == 1000000 && session.sum_word == MOLA_SUM_WORD);
-    EXPECT(session.threshold == 3 && session.window.next == 0 && session.window.marks == 1);
+    EXPECT(session.threshold == 3 && session.window.start == 0 && session.window.marks == 1);
     EXPECT(is(offer_at(3), 0, MOLA_PACKET, 3));
     EXPECT(is(offer_at(1), 0, MOLA_PACKET, 1));
     EXPECT(is(offer_at(1), 24, MOLA_NOTHING, 0));
@@ -122,12 +122,12 @@ static void history(void)
     EXPECT(is(mola_pass(&session), 0, MOLA_MISSING, 4));
     count = mola_drain(&session, out, sizeof out, store, sizeof store, 32, descriptions);
     EXPECT(count.refusal == 0 && count.count == 1 && holds_packet(out, 5));
-    EXPECT(session.window.next == 6 && session.window.marks == 0);
+    EXPECT(session.window.start == 6 && session.window.marks == 0);
 
-    session.window.next = 1000000;
+    session.window.start = 1000000;
     EXPECT(is(mola_pass(&session), 28, MOLA_NOTHING, 0));
-    session.window.next = 1000001;
-    EXPECT(is(mola_pass(&session), 30, MOLA_NOTHING, 0) && session.window.next == 1000001);
+    session.window.start = 1000001;
+    EXPECT(is(mola_pass(&session), 30, MOLA_NOTHING, 0) && session.window.start == 1000001);
 }
 
 int main(void)
