@@ -9,7 +9,7 @@ use Rattle.packet.specs.Fields.{fieldsOf}
 use Rattle.packet.specs.Read.{readDue}
 
 -- its number is the ladder's, and not 0
-pub handed-on : (b : List ℕ) (w k r : ℕ) → refused k ≡ readDue b w → r ≡ k → (r ≡ readRefusal b w) × (r ≡ 0 → ⊥)
+pub handed-on : (b : List ℕ) (word k r : ℕ) → refused k ≡ readDue b word → r ≡ k → (r ≡ readRefusal b word) × (r ≡ 0 → ⊥)
 handed-on b w k r e q =
-    let h = refusal-said k (readRefusal b w) (fieldsOf b) e in
+    let h = refusal-said k (readRefusal b word) (fieldsOf b) e in
     (q ∙ h .0, λ z. h .1 (sym (q ∙ h .0) ∙ z))

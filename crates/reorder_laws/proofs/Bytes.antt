@@ -36,23 +36,23 @@ use Rattle.reorder_laws.proofs.Drains.{drained, drained-packet}
 -- ---- in
 
 -- a packet's bytes, stored at its position
-stored : (store b : List ℕ) (w p : ℕ) → length store ≡ 34560 → length b ≡ 1080 → slot (put store (slotStart p) b) p ≡ b
-stored store b w p e l = piece-same store b (p % 32) l (omega arith)
+stored : (store b : List ℕ) (p : ℕ) → length store ≡ 34560 → length b ≡ 1080 → slot (put store (slotStart p) b) p ≡ b
+stored store b p e l = piece-same store b (p % 32) l (omega arith)
 
 first-held : (p : ℕ) → p ≡ 0 → heldAt firstWindow p ≡ true
 unfolding heldAt
 first-held p e = ap (heldAt firstWindow) e
 
-open-holds : (s : Session) (store b : List ℕ) (h w p : ℕ) → openOf s store b h w .said ≡ answered p
-    → Holds (openOf s store b h w .session) (openOf s store b h w .bytes) p b
+open-holds : (s : Session) (store b : List ℕ) (h word p : ℕ) → openOf s store b h word .said ≡ answered p
+    → Holds (openOf s store b h word .session) (openOf s store b h word .bytes) p b
 unfolding openOf
-open-holds s store b h w p e =
-    let l = left (openDue (length store) b h w) s store _ _ p e in
-    let o = accepted-opening (length store) b h w p (l .answer) in
-    let a = accepted b w (o .read) in
+open-holds s store b h word p e =
+    let l = left (openDue (length store) b h word) s store _ _ p e in
+    let o = accepted-opening (length store) b h word p (l .answer) in
+    let a = accepted b word (o .read) in
     record {
       held = ap (λ (t : Session). heldAt (t .window) p) (l .session) ∙ first-held p (o .first);
-      bytes = ap (λ (c : List ℕ). slot c p) (l .bytes) ∙ stored store b w p (o .store) (a .size);
+      bytes = ap (λ (c : List ℕ). slot c p) (l .bytes) ∙ stored store b p (o .store) (a .size);
     }
 
 offer-holds : (s : Session) (store b : List ℕ) (p : ℕ) → offerOf s store b .said ≡ answered p → Holds (offerOf s store b .session) (offerOf s store b .bytes) p b
@@ -63,7 +63,7 @@ offer-holds s store b p e =
     let a = accepted b (s .«sum_word») (t .read) in
     record {
       held = ap (λ (u : Session). heldAt (u .window) p) (l .session) ∙ holding-same (s .window) p (t .position .least) (t .position .near);
-      bytes = ap (λ (c : List ℕ). slot c p) (l .bytes) ∙ stored store b (s .«sum_word») p (t .store) (a .size);
+      bytes = ap (λ (c : List ℕ). slot c p) (l .bytes) ∙ stored store b p (t .store) (a .size);
     }
 
 -- ---- kept

@@ -152,14 +152,14 @@ counts : (b : List ℕ) → fieldsOf b .count ≤ 16383
 unfolding fieldsOf
 counts b = omega arith
 
-open-whole : (s : Session) (store b : List ℕ) (h w p : ℕ) → openOf s store b h w .said ≡ answered p → broken (openOf s store b h w .session) ≡ false
+open-whole : (s : Session) (store b : List ℕ) (h word p : ℕ) → openOf s store b h word .said ≡ answered p → broken (openOf s store b h word .session) ≡ false
 unfolding openOf
-open-whole s store b h w p e =
-    let l = left (openDue (length store) b h w) s store _ _ p e in
-    let o = accepted-opening (length store) b h w p (l .answer) in
-    let a = accepted b w (o .read) in
+open-whole s store b h word p e =
+    let l = left (openDue (length store) b h word) s store _ _ p e in
+    let o = accepted-opening (length store) b h word p (l .answer) in
+    let a = accepted b word (o .read) in
     ap broken (l .session)
-    ∙ unbroken (opened (fieldsOf b) h w)
+    ∙ unbroken (opened (fieldsOf b) h word)
     (record {
       count = counts b;
       threshold-least = o .least;
@@ -170,9 +170,9 @@ open-whole s store b h w p e =
       held-most = first-held;
     })
 
-open-size : (s : Session) (store b : List ℕ) (h w : ℕ) → length (openOf s store b h w .bytes) ≡ length store
+open-size : (s : Session) (store b : List ℕ) (h word : ℕ) → length (openOf s store b h word .bytes) ≡ length store
 unfolding openOf
-open-size s store b h w = outcome-cases (λ t c. length c ≡ length store) (openDue (length store) b h w) s store _ _ refl (λ p e. put-length store _ b)
+open-size s store b h word = outcome-cases (λ t c. length c ≡ length store) (openDue (length store) b h word) s store _ _ refl (λ p e. put-length store _ b)
 
 offer-size : (s : Session) (store b : List ℕ) → length (offerOf s store b .bytes) ≡ length store
 unfolding Offer-rules.offerOf

@@ -33,8 +33,8 @@ pub record DrainedBy (s : Session) (out store : List ℕ) (budget p : ℕ) (b : 
 
 pub record BytesComeOut : Type 0 where
   -- what an opening or an offer took is held, with its bytes
-  pub open-holds : (s : Session) (store b : List ℕ) (h w p : ℕ) → openOf s store b h w .said ≡ answered p
-      → Holds (openOf s store b h w .session) (openOf s store b h w .bytes) p b
+  pub open-holds : (s : Session) (store b : List ℕ) (h word p : ℕ) → openOf s store b h word .said ≡ answered p
+      → Holds (openOf s store b h word .session) (openOf s store b h word .bytes) p b
   pub offer-holds : (s : Session) (store b : List ℕ) (p : ℕ) → offerOf s store b .said ≡ answered p
       → Holds (offerOf s store b .session) (offerOf s store b .bytes) p b
   -- what is held stays so under any offer and any pass, refused or not
