@@ -1,0 +1,40 @@
+use mathlib.Core.Path.{_≡_, sym, ap, ap₂}
+use mathlib.Core.Bool.{Bool, true}
+use lib.Dec.{eqb}
+use borrow.Author.Tests.{eq-eqb, ne-eqb}
+use borrow.Author.Needs.{needs}
+use Rattle.program_io.specs.declared.Chunk.{Chunk}
+use Rattle.program_io.specs.Next.{nextDue}
+use Rattle.program_io.proofs.after_chunk.Statement.{statement}
+use Rattle.program_io.proofs.after_chunk.Tie as tie
+
+-- all of the text was written
+told : (s : tie.Start) → s .args .written ≡ s .args .text → (chunk : Chunk) → s .args .chunk ≡ chunk
+    → nextDue true chunk ≡ nextDue (eqb (s .args .written) (s .args .text)) (s .args .chunk)
+told s e chunk q = sym (ap₂ nextDue (eq-eqb (s .args .written) (s .args .text) e) q)
+
+returns : tie.Need-returns
+returns c =
+    let a = c .before .args in ap (λ (b : Bool). nextDue b (a .chunk)) (sym (ne-eqb (a .written) (a .text) (c .if1 .taken)))
+
+enum-told : tie.Need-enum-told
+enum-told c = search needs
+
+enum-told-2 : tie.Need-enum-told-2
+enum-told-2 c = search needs
+
+enum-told-3 : tie.Need-enum-told-3
+enum-told-3 c = search needs
+
+returns-2 : tie.Need-returns-2
+returns-2 c = told (c .before .before .before) (c .before .before .if1 .left) _ (c .enum-told .given .1)
+
+returns-3 : tie.Need-returns-3
+returns-3 c = told (c .before .before .before) (c .before .before .if1 .left) _ (c .enum-told2 .given .1)
+
+returns-4 : tie.Need-returns-4
+returns-4 c = told (c .before .before .before) (c .before .before .if1 .left) _ (c .enum-told3 .given .1)
+
+pub after-chunk-spec : {M : Type 1} → statement M
+after-chunk-spec =
+    tie.close (tie.spec returns enum-told enum-told-2 enum-told-3 returns-2 returns-3 returns-4)

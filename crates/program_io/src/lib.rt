@@ -1,0 +1,187 @@
+// Reading and writing, for every program. The calls stand in `read_once` and `write_once` alone; whatever is decided by their answers is a function
+// with an equation. No contract can say what a call of the system moves. So nothing here proves that the bytes in a buffer come from the descriptor
+// or that a text goes to standard output, nor that a failure is told on standard error: tests/program.rs runs a program to see these.
+use libc::STDERR_FILENO;
+use libc::STDOUT_FILENO;
+ghost use mathlib.Core.Path.{_≡_};
+ghost use Prim.Native.Nat.{_+_, _<_, _≤_, _^_};
+ghost use lib.Dec.{eqb};
+ghost use lib.ListN.{length};
+ghost use Rattle.program_io.specs.Chunk.{readDue, ReadWithin, bytesIn, stepDue, ChunkWithin, countIn};
+ghost use Rattle.program_io.specs.Next.{nextDue, isContinue, isClose};
+
+// 2^40: a loop has to end, and nothing says that the input does.
+pub const CHUNKS: u64 = 1099511627776;
+
+// What a read came to.
+enum Read {
+    Failed,
+    End,
+    Bytes(usize),
+}
+
+// What the reads of a chunk came to: a read failed; they filled the buffer; or the input ended after so many bytes.
+pub enum Chunk {
+    Failed,
+    Full,
+    Last(usize),
+}
+
+// What follows a read: another, after so many bytes, or none.
+enum Step {
+    More(usize),
+    Done(Chunk),
+}
+
+// What follows a chunk: another chunk; the closing text, for the input has ended; or nothing, for a read or a write failed.
+pub enum Next {
+    Continue,
+    Close,
+    Stop,
+}
+
+// What a read's answer means.
+fn meaning(got: isize, rest: &[u8]) -> Read
+    ensures { λ r. ⌜ r ≡ readDue got (length (now (rest .entry))) ⌝ }
+    ensures { λ r. ⌜ ReadWithin (length (now (rest .entry))) r ⌝ }
+{
+    if got < 0 {
+        return Read::Failed;
+    }
+    let count = io::count(got, rest);
+    if count == 0 {
+        return Read::End;
+    }
+    Read::Bytes(count)
+}
+
+// Reads once, to the start of rest. A failure is told on standard error by errno, which is still that of the read.
+fn read_once(fd: i32, rest: &mut [u8]) -> Read
+    ensures { λ r. ⌜ ReadWithin (length (now (rest .exit))) r ⌝ }
+{
+    let read = meaning(libc::read(fd, rest), rest);
+    if let Read::Failed = read {
+        os::fail(b"read");
+    }
+    read
+}
+
+// Writes once, and answers how many of the bytes were taken, from the first on. Where none was, it is told on standard error.
+fn write_once(fd: i32, rest: &[u8]) -> usize
+    ensures { λ r. ⌜ r ≤ length (now (rest .entry)) ⌝ }
+{
+    let taken = io::count(libc::write(fd, rest), rest);
+    if taken == 0 {
+        os::fail(b"write");
+    }
+    taken
+}
+
+// What follows a read after `count` bytes.
+fn after_read(count: usize, read: Read) -> Step
+    requires { ⌜ count + bytesIn read < 2 ^ 64 ⌝ }
+    ensures { λ r. ⌜ r ≡ stepDue count read ⌝ }
+{
+    match read {
+        Read::Failed => Step::Done(Chunk::Failed),
+        Read::End => Step::Done(Chunk::Last(count)),
+        Read::Bytes(more) => Step::More(count + more),
+    }
+}
+
+// Reads a chunk to the start of buf. A read may be short, as from a pipe.
+pub fn fill(fd: i32, buf: &mut [u8]) -> Chunk
+    ensures { λ r. ⌜ ChunkWithin (length (now (buf .exit))) r ⌝ }
+{
+    let mut count: usize = 0;
+    while count < buf.len() {
+        let read = read_once(fd, &mut buf[count..]);
+        let step = after_read(count, read);
+        match step {
+            Step::More(n) => {
+                count = n;
+            }
+            Step::Done(chunk) => {
+                return chunk;
+            }
+        }
+    }
+    Chunk::Full
+}
+
+// How many bytes of a buffer of `room` bytes are the chunk's, from the first on. After a failed read none is.
+pub fn count(chunk: Chunk, room: usize) -> usize
+    ensures { λ r. ⌜ r ≡ countIn room chunk ⌝ }
+{
+    match chunk {
+        Chunk::Failed => 0,
+        Chunk::Full => room,
+        Chunk::Last(count) => count,
+    }
+}
+
+// Writes until all of the text is taken or a write takes nothing, and answers how many bytes were taken.
+fn write(fd: i32, text: &[u8]) -> usize
+    ensures { λ r. ⌜ r ≤ length (now (text .entry)) ⌝ }
+{
+    let mut count: usize = 0;
+    while count < text.len() {
+        let taken = write_once(fd, &text[count..]);
+        if taken == 0 {
+            return count;
+        }
+        count = count + taken;
+    }
+    count
+}
+
+// Writes the text to standard output, and answers how many of its bytes were taken.
+pub fn print(text: &[u8]) -> usize
+    ensures { λ r. ⌜ r ≤ length (now (text .entry)) ⌝ }
+{
+    write(STDOUT_FILENO, text)
+}
+
+// What follows a chunk that had a text of so many bytes, of which so many were written.
+pub fn after_chunk(chunk: Chunk, text: usize, written: usize) -> Next
+    ensures { λ r. ⌜ r ≡ nextDue (eqb written text) chunk ⌝ }
+{
+    if written != text {
+        return Next::Stop;
+    }
+    match chunk {
+        Chunk::Failed => Next::Stop,
+        Chunk::Full => Next::Continue,
+        Chunk::Last(_) => Next::Close,
+    }
+}
+
+// Whether another chunk follows.
+pub fn continues(next: Next) -> bool
+    ensures { λ r. ⌜ r ≡ isContinue next ⌝ }
+{
+    match next {
+        Next::Continue => true,
+        Next::Close => false,
+        Next::Stop => false,
+    }
+}
+
+// Whether the closing text follows.
+pub fn closes(next: Next) -> bool
+    ensures { λ r. ⌜ r ≡ isClose next ⌝ }
+{
+    match next {
+        Next::Continue => false,
+        Next::Close => true,
+        Next::Stop => false,
+    }
+}
+
+// Tells on standard error that the input has more than CHUNKS chunks, and answers what follows.
+pub fn too_long() -> Next
+    ensures { λ r. ⌜ r ≡ Next.Stop ⌝ }
+{
+    write(STDERR_FILENO, b"input too long\n");
+    Next::Stop
+}
