@@ -1,5 +1,5 @@
 -- Laws of the count that goes on from chunk to chunk.
-use Prim.Native.Nat.{ℕ, _+_, _*_, _<_, _≤_, _^_}
+use Prim.Native.Nat.{ℕ, _+_, _-_, _*_, _<_, _≤_}
 use mathlib.Core.Path.{_≡_, refl, sym, ap, _∙_}
 use mathlib.Core.Bool.{Bool, true, false, false≢true}
 use mathlib.Core.List.{List}
@@ -7,14 +7,14 @@ use native.Mathlib.Omega.{arith}
 use lib.Dec.{eqb}
 use lib.ListN.{length, take}
 use Rattle.program_io.specs.declared.Chunk.{Chunk}
-use Rattle.program_io.specs.declared.Chunk.the-variants.{Failed, Full}
+use Rattle.program_io.specs.declared.Chunk.the-variants.{Full}
 use Rattle.program_io.specs.declared.Next.{Next}
-use Rattle.program_io.specs.declared.Next.the-variants.{Continue, Close, Stop}
+use Rattle.program_io.specs.declared.Next.the-variants.{Continue, Close, Stop, TooLong}
 use Rattle.program_io.specs.Chunk.{ChunkWithin, countIn}
-use Rattle.program_io.specs.Next.{nextDue, isContinue, isClose}
+use Rattle.program_io.specs.Next.{chunksMost, nextDue, isContinue, isClose}
 use Rattle.program_io.proofs.Reading.{count-fits}
 use Rattle.program_io.proofs.Following.{is-continue, is-close, continue-full}
-use Rattle.aedr.specs.Printed.{piecesIn, lines, allLines}
+use Rattle.aedr.specs.Printed.{piecesIn, allLines}
 use Rattle.aedr.specs.Chunks.{chunkPieces, chunkSize}
 use Rattle.aedr_io.specs.declared.Progress.{Progress}
 use Rattle.aedr_io.specs.declared.Chunks.{Chunks}
@@ -25,17 +25,19 @@ due-low : (next : Next) (done n : ℕ) → done ≤ recordsDue next done n
 due-low Continue done n = omega arith
 due-low Close done n = omega arith
 due-low Stop done n = omega arith
+due-low TooLong done n = omega arith
 
 due-high : (next : Next) (done n : ℕ) → recordsDue next done n ≤ done + piecesIn n
 due-high Continue done n = omega arith
 due-high Close done n = omega arith
 due-high Stop done n = omega arith
+due-high TooLong done n = omega arith
 
 -- a chunk, from what its calls answered
-pub printed-chunk : (p : Progress) (done read : ℕ) (buf out text : List ℕ) → length buf ≡ chunkSize → ChunkWithin (length buf) (p .chunk)
+pub printed-chunk : (p : Progress) (full done read : ℕ) (buf out text : List ℕ) → length buf ≡ chunkSize → ChunkWithin (length buf) (p .chunk)
     → read ≡ countIn (length buf) (p .chunk) → text ≡ allLines (take read buf) done → take (p .text) out ≡ text → p .text ≡ length text
-    → p .next ≡ nextDue (eqb (p .written) (p .text)) (p .chunk) → p .records ≡ recordsDue (p .next) done read → ChunkPrinted p done buf out
-printed-chunk p done read buf out text l w c e t s n d =
+    → p .next ≡ nextDue full (eqb (p .written) (p .text)) (p .chunk) → p .records ≡ recordsDue (p .next) done read → ChunkPrinted p full done buf out
+printed-chunk p full done read buf out text l w c e t s n d =
     let k : read ≡ countIn chunkSize (p .chunk) = c ∙ ap (λ (room : ℕ). countIn room (p .chunk)) l in
     let b : text ≡ allLines (bytesOf (p .chunk) buf) done = e ∙ ap (λ (m : ℕ). allLines (take m buf) done) k in
     record {
@@ -46,7 +48,7 @@ printed-chunk p done read buf out text l w c e t s n d =
       records = d ∙ ap (recordsDue (p .next) done) k;
     }
 
-module _ (p : Progress) (done : ℕ) (buf out : List ℕ) (h : ChunkPrinted p done buf out) where
+module _ (p : Progress) (full done : ℕ) (buf out : List ℕ) (h : ChunkPrinted p full done buf out) where
   low : done ≤ p .records
   low = omega (arith, h .records, due-low (p .next) done (countIn chunkSize (p .chunk)))
 
@@ -55,36 +57,25 @@ module _ (p : Progress) (done : ℕ) (buf out : List ℕ) (h : ChunkPrinted p do
       omega (arith, h .records, due-high (p .next) done (countIn chunkSize (p .chunk)), count-fits (p .chunk) chunkSize (h .within))
 
   -- one that another follows
-  pub goes-on : (full : ℕ) → isContinue (p .next) ≡ true → done ≡ chunkPieces * full → p .records ≡ chunkPieces * (full + 1)
-  goes-on full e d =
+  pub goes-on : isContinue (p .next) ≡ true → done ≡ chunkPieces * full → (p .records ≡ chunkPieces * (full + 1)) × (full < chunksMost - 1)
+  goes-on e d =
       let n : p .next ≡ Continue = is-continue (p .next) e in
-      let f : p .chunk ≡ Full = continue-full (eqb (p .written) (p .text)) (p .chunk) (ap isContinue (sym (h .next)) ∙ e) in
+      let f = continue-full full (eqb (p .written) (p .text)) (p .chunk) (ap isContinue (sym (h .next)) ∙ e) in
       let r : p .records ≡ recordsDue Continue done (countIn chunkSize Full) =
       h .records ∙ ap (λ (k : Next). recordsDue k done (countIn chunkSize (p .chunk))) n
-      ∙ ap (λ (c : Chunk). recordsDue Continue done (countIn chunkSize c)) f in
-      omega arith
+      ∙ ap (λ (c : Chunk). recordsDue Continue done (countIn chunkSize c)) (f .0) in
+      (omega arith, f .1)
 
   -- the last
-  pub ends : (full : ℕ) → isContinue (p .next) ≡ false → done ≡ chunkPieces * full → full < 2 ^ 40
-      → ChunksPrinted (record { full = full; last = p }) buf out
-  ends full e d l = record { last = rw d at h; ended = e; most = omega (arith, high) }
+  pub ends : isContinue (p .next) ≡ false → done ≡ chunkPieces * full → full < chunksMost → ChunksPrinted (record { full = full; last = p }) buf out
+  ends e d l = record { last = rw d at h; ended = e; most = omega (arith, high) }
 
-  -- of the last that ended the input
-  pub all-pieces : (full : ℕ) → isClose (p .next) ≡ true → done ≡ chunkPieces * full → p .records ≡ piecesIn (chunkSize * full + countIn chunkSize (p .chunk))
-  all-pieces full e d =
+  -- the last that ended the input
+  pub all-pieces : isClose (p .next) ≡ true → done ≡ chunkPieces * full → p .records ≡ piecesIn (chunkSize * full + countIn chunkSize (p .chunk))
+  all-pieces e d =
       let r : p .records ≡ recordsDue Close done (countIn chunkSize (p .chunk)) =
       h .records ∙ ap (λ (k : Next). recordsDue k done (countIn chunkSize (p .chunk))) (is-close (p .next) e) in
       omega arith
-
--- too many chunks: as after a failed read
-pub too-long : (full done : ℕ) (buf out : List ℕ) (next : Next) → done ≡ chunkPieces * full → full ≤ 2 ^ 40 → next ≡ Stop
-    → ChunksPrinted (record { full = full; last = record { chunk = Failed; text = 0; written = 0; next = next; records = done } }) buf out
-unfolding lines
-too-long full done buf out next d l e = record {
-  last = record { within = tt; text = refl; size = refl; next = e; records = rw e d };
-  ended = ap isContinue e;
-  most = omega arith;
-}
 
 -- the check, before its closing line and with it
 module _ (r : Chunks) (buf out : List ℕ) (h : ChunksPrinted r buf out) where
@@ -93,18 +84,18 @@ module _ (r : Chunks) (buf out : List ℕ) (h : ChunksPrinted r buf out) where
   not-closed e = record {
     complete = sym (ap isClose (sym (h .last .next)) ∙ e);
     most = h .most;
-    low = low (r .last) (chunkPieces * r .full) buf out (h .last);
-    high = high (r .last) (chunkPieces * r .full) buf out (h .last);
+    low = low (r .last) (r .full) (chunkPieces * r .full) buf out (h .last);
+    high = high (r .last) (r .full) (chunkPieces * r .full) buf out (h .last);
     pieces = λ w. absurd (false≢true w);
   }
 
   pub closed : isClose (r .last .next) ≡ true → (complete : Bool) (text written : ℕ)
-      → complete ≡ isClose (nextDue (eqb written text) (r .last .chunk))
+      → complete ≡ isClose (nextDue (r .full) (eqb written text) (r .last .chunk))
       → FileChecked (record { records = r .last .records; complete = complete; full = r .full; chunk = r .last .chunk; text = text; written = written })
   closed e complete text written w = record {
     complete = w;
     most = h .most;
-    low = low (r .last) (chunkPieces * r .full) buf out (h .last);
-    high = high (r .last) (chunkPieces * r .full) buf out (h .last);
-    pieces = λ c. all-pieces (r .last) (chunkPieces * r .full) buf out (h .last) (r .full) e refl;
+    low = low (r .last) (r .full) (chunkPieces * r .full) buf out (h .last);
+    high = high (r .last) (r .full) (chunkPieces * r .full) buf out (h .last);
+    pieces = λ c. all-pieces (r .last) (r .full) (chunkPieces * r .full) buf out (h .last) e refl;
   }

@@ -1,5 +1,5 @@
 -- Laws of the texts at the start of the output.
-use Prim.Native.Nat.{ℕ, _+_, _*_, _≤_, _^_}
+use Prim.Native.Nat.{ℕ, _+_, _*_, _≤_}
 use mathlib.Core.Path.{_≡_, sym, ap, _∙_}
 use mathlib.Core.List.{List}
 use native.Mathlib.Omega.{arith}
@@ -7,6 +7,7 @@ use lib.ListN.{length, take, drop, length-take}
 use lib.Seq.{take-at}
 use Rattle.octets.specs.Bytes.{put}
 use Rattle.octets.proofs.Store.{put-splice}
+use Rattle.program_io.specs.Next.{chunksMost}
 use Rattle.aedr.specs.Printed.{allLines, total}
 use Rattle.aedr.specs.Chunks.{chunkPieces, chunkSize, chunkRoom, report, closing}
 use Rattle.aedr.proofs.Reports.{closing-total}
@@ -18,7 +19,7 @@ stored text s t r e q h =
     ap (take r) (q ∙ put-splice s text 0 (omega arith)) ∙ take-at text (drop (0 + length text) s) r (sym e)
 
 -- a chunk has room for its lines, and the total for its own
-pub lines-due : (buf : List ℕ) (n done room : ℕ) → length buf ≡ chunkSize → room ≡ chunkRoom → done ≤ chunkPieces * 2 ^ 40
+pub lines-due : (buf : List ℕ) (n done room : ℕ) → length buf ≡ chunkSize → room ≡ chunkRoom → done ≤ chunkPieces * chunksMost
     → report (take n buf) done room ≡ allLines (take n buf) done
 lines-due buf n done room l k h =
     ap (report (take n buf) done) k ∙ chunk-lines (take n buf) done (omega (arith, length-take n buf)) (omega (arith, length-take n buf))

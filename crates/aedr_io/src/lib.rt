@@ -8,15 +8,15 @@
 use program_io::Chunk;
 use program_io::Next;
 ghost use mathlib.Core.Path.{_≡_};
-ghost use Prim.Native.Nat.{_+_, _*_, _≤_, _^_};
-ghost use lib.ListN.{length, take};
-ghost use Rattle.aedr.specs.Printed.{total};
+ghost use Prim.Native.Nat.{_*_, _≤_};
+ghost use lib.ListN.{length};
+ghost use Rattle.program_io.specs.Next.{chunksMost};
 ghost use Rattle.aedr.specs.Chunks.{chunkPieces, chunkSize, chunkRoom};
 ghost use Rattle.aedr_io.specs.Check.{recordsDue, ChunkPrinted, ChunksPrinted, Ran, FileChecked};
 
 // The pieces whose lines are written, with `records` before a chunk of `read` bytes.
 fn records_after(next: Next, records: u64, read: usize) -> u64
-    requires { ⌜ records ≤ chunkPieces * 2 ^ 40 ⌝ }
+    requires { ⌜ records ≤ chunkPieces * chunksMost ⌝ }
     ensures { λ r. ⌜ r ≡ recordsDue next records read ⌝ }
 {
     let pieces = aedr::count_pieces(read) as u64;
@@ -24,6 +24,7 @@ fn records_after(next: Next, records: u64, read: usize) -> u64
         Next::Continue => records + pieces,
         Next::Close => records + pieces,
         Next::Stop => records,
+        Next::TooLong => records + pieces,
     }
 }
 
@@ -37,16 +38,16 @@ struct Progress {
     records: u64,
 }
 
-// Prints the chunk after `records` pieces.
-fn print_chunk(fd: i32, records: u64, buf: &mut [u8], out: &mut [u8]) -> Progress
-    requires { ⌜ (length (now buf) ≡ chunkSize) × (length (now out) ≡ chunkRoom) × (records ≤ chunkPieces * 2 ^ 40) ⌝ }
-    ensures { λ r. ⌜ ChunkPrinted r records (now (buf .exit)) (now (out .exit)) ⌝ }
+// Prints the chunk after `full` others of `records` pieces.
+fn print_chunk(fd: i32, full: u64, records: u64, buf: &mut [u8], out: &mut [u8]) -> Progress
+    requires { ⌜ (length (now buf) ≡ chunkSize) × (length (now out) ≡ chunkRoom) × (records ≤ chunkPieces * chunksMost) ⌝ }
+    ensures { λ r. ⌜ ChunkPrinted r full records (now (buf .exit)) (now (out .exit)) ⌝ }
 {
     let chunk = program_io::fill(fd, buf);
     let read = program_io::count(chunk, buf.len());
     let text = aedr::report(&buf[..read], records, out);
     let written = program_io::print(&out[..text]);
-    let next = program_io::after_chunk(chunk, text, written);
+    let next = program_io::after_chunk(full, chunk, text, written);
     let records = records_after(next, records, read);
     Progress {
         chunk,
@@ -70,8 +71,8 @@ fn print_chunks(fd: i32, buf: &mut [u8], out: &mut [u8]) -> Chunks
 {
     let mut records: u64 = 0;
     let mut full: u64 = 0;
-    while full < program_io::CHUNKS {
-        let last = print_chunk(fd, records, buf, out);
+    loop {
+        let last = print_chunk(fd, full, records, buf, out);
         let next = last.next;
         if !program_io::continues(next) {
             return Chunks { full, last };
@@ -79,15 +80,6 @@ fn print_chunks(fd: i32, buf: &mut [u8], out: &mut [u8]) -> Chunks
         records = last.records;
         full = full + 1;
     }
-    let next = program_io::too_long();
-    let last = Progress {
-        chunk: Chunk::Failed,
-        text: 0,
-        written: 0,
-        next,
-        records,
-    };
-    Chunks { full, last }
 }
 
 // How many pieces had their lines written, and whether the input ended and all was written, the closing line too. For the contracts: how many
@@ -124,7 +116,7 @@ fn run(fd: i32, buf: &mut [u8], out: &mut [u8]) -> Checked
     }
     let text = aedr::close(records, out);
     let written = program_io::print(&out[..text]);
-    let next = program_io::after_chunk(chunk, text, written);
+    let next = program_io::after_chunk(full, chunk, text, written);
     let complete = program_io::closes(next);
     Checked {
         records,

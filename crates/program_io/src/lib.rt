@@ -4,13 +4,14 @@
 use libc::STDERR_FILENO;
 use libc::STDOUT_FILENO;
 ghost use mathlib.Core.Path.{_≡_};
+ghost use mathlib.Core.Bool.{true};
 ghost use Prim.Native.Nat.{_+_, _<_, _≤_, _^_};
 ghost use lib.Dec.{eqb};
 ghost use lib.ListN.{length};
 ghost use Rattle.program_io.specs.Chunk.{readDue, ReadWithin, bytesIn, stepDue, ChunkWithin, countIn};
 ghost use Rattle.program_io.specs.Next.{nextDue, isContinue, isClose};
 
-// 2^40: a loop has to end, and nothing says that the input does.
+// 2^40, the most chunks that are read: a loop has to end, and nothing says that the input does.
 pub const CHUNKS: u64 = 1099511627776;
 
 // What a read came to.
@@ -33,11 +34,13 @@ enum Step {
     Done(Chunk),
 }
 
-// What follows a chunk: another chunk; the closing text, for the input has ended; or nothing, for a read or a write failed.
+// What follows a chunk: another chunk; the closing text, for the input has ended; nothing, for a read or a write failed; or nothing, for CHUNKS were
+// read.
 pub enum Next {
     Continue,
     Close,
     Stop,
+    TooLong,
 }
 
 // What a read's answer means.
@@ -142,16 +145,27 @@ pub fn print(text: &[u8]) -> usize
     write(STDOUT_FILENO, text)
 }
 
-// What follows a chunk that had a text of so many bytes, of which so many were written.
-pub fn after_chunk(chunk: Chunk, text: usize, written: usize) -> Next
-    ensures { λ r. ⌜ r ≡ nextDue (eqb written text) chunk ⌝ }
+// What follows a full chunk that was written, after `full` others. An input that is too long is told on standard error.
+fn after_full(full: u64) -> Next
+    ensures { λ r. ⌜ r ≡ nextDue full true Chunk.Full ⌝ }
+{
+    if full < CHUNKS - 1 {
+        return Next::Continue;
+    }
+    write(STDERR_FILENO, b"input too long\n");
+    Next::TooLong
+}
+
+// What follows a chunk after `full` others, with a text of so many bytes, of which so many were written.
+pub fn after_chunk(full: u64, chunk: Chunk, text: usize, written: usize) -> Next
+    ensures { λ r. ⌜ r ≡ nextDue full (eqb written text) chunk ⌝ }
 {
     if written != text {
         return Next::Stop;
     }
     match chunk {
         Chunk::Failed => Next::Stop,
-        Chunk::Full => Next::Continue,
+        Chunk::Full => after_full(full),
         Chunk::Last(_) => Next::Close,
     }
 }
@@ -164,6 +178,7 @@ pub fn continues(next: Next) -> bool
         Next::Continue => true,
         Next::Close => false,
         Next::Stop => false,
+        Next::TooLong => false,
     }
 }
 
@@ -175,13 +190,6 @@ pub fn closes(next: Next) -> bool
         Next::Continue => false,
         Next::Close => true,
         Next::Stop => false,
+        Next::TooLong => false,
     }
-}
-
-// Tells on standard error that the input has more than CHUNKS chunks, and answers what follows.
-pub fn too_long() -> Next
-    ensures { λ r. ⌜ r ≡ Next.Stop ⌝ }
-{
-    write(STDERR_FILENO, b"input too long\n");
-    Next::Stop
 }

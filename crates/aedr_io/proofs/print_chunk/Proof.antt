@@ -1,5 +1,6 @@
+-- The text is the lines of the chunk's bytes.
 use Prim.Native.Nat.{ℕ}
-use mathlib.Core.Path.{sym}
+use mathlib.Core.Path.{sym, _∙_}
 use mathlib.Core.List.{List}
 use native.Mathlib.Omega.{arith}
 use lib.ListN.{length, take}
@@ -52,16 +53,18 @@ same-length-2 c = search needs
 
 returns : tie.Need-returns
 returns c =
-    let a = c .before .before .before .before .before .before .before .before .before .before .before .before .before .before .before .before .args in
+    let s = c .before .before .before .before .before .before .before .before .before .before .before .before .before .before .before .before in
+    let a = s .args in
     let f = c .before .before .before .before .before .before .before .before .before .before .before .before .fill in
     let n = c .before .before .before .before .before .before .before .before .before .count in
     let p = c .before .before .before .before .before .before .report in
     let t = c .before .before .print in
     let x = c .before .after-chunk in
     let d = c .records-after in
+    let l = f .kept .1 .0 ∙ s .pre .0 in
     let text : List ℕ = report (take (n .result) (f .last .1 .0)) (a .records) (length (now (a .out))) in
-    printed-chunk _ (a .records) (n .result) (f .last .1 .0) _ text (omega arith) (f .ensures) (n .ensures)
-    (lines-due (f .last .1 .0) (n .result) (a .records) (length (now (a .out))) (omega arith) (omega arith) (omega arith))
+    printed-chunk _ (a .full) (a .records) (n .result) (f .last .1 .0) _ text l (f .ensures) (n .ensures)
+    (lines-due (f .last .1 .0) (n .result) (a .records) (length (now (a .out))) l (s .pre .1) (s .pre .2))
     (stored text (now (a .out)) _ (p .result) (p .ensures .0 .0) (p .ensures .0 .1) (omega (arith, p .ensures .1 .0, p .kept .1 .1 .0)))
     (p .ensures .0 .0) (x .ensures) (d .ensures)
 

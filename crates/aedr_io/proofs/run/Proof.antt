@@ -1,3 +1,4 @@
+-- What the chunks came to, and the closing line.
 use mathlib.Core.Path.{sym, ap, _∙_}
 use mathlib.Core.Bool.{false≢true}
 use native.Mathlib.Omega.{arith}

@@ -1,3 +1,4 @@
+-- What each of a read's answers makes of the chunk.
 use mathlib.Core.Path.{sym, ap}
 use native.Mathlib.Omega.{arith}
 use borrow.Author.Needs.{needs}

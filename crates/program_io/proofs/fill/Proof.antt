@@ -1,3 +1,4 @@
+-- The bytes read so far fit; each read that another follows leaves less room.
 use Prim.Native.Nat.{_-_, _≤_}
 use mathlib.Core.Path.{_≡_, sym, _∙_}
 use native.Mathlib.Omega.{arith}

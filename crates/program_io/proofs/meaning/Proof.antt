@@ -1,3 +1,4 @@
+-- A failure, the end, or a number of bytes within the room.
 use native.Mathlib.Omega.{arith}
 use mir.Syntax.{w64}
 use mir.Val.{SFits}

@@ -1,3 +1,4 @@
+-- The bytes taken so far; each write leaves fewer.
 use Prim.Native.Nat.{_-_, _≤_}
 use lib.ListN.{length}
 use borrow.Author.Needs.{needs}
