@@ -4,14 +4,14 @@ use mathlib.Core.Path.{_≡_, refl, sym, ap, _∙_}
 use mathlib.Core.Bool.{Bool, true, false, false≢true}
 use mathlib.Core.List.{List}
 use native.Mathlib.Omega.{arith}
-use lib.Dec.{eqb}
 use lib.ListN.{length, take}
 use Rattle.program_io.specs.declared.Chunk.{Chunk}
 use Rattle.program_io.specs.declared.Chunk.the-variants.{Full}
+use Rattle.program_io.specs.declared.Printed.{Printed}
 use Rattle.program_io.specs.declared.Next.{Next}
 use Rattle.program_io.specs.declared.Next.the-variants.{Continue, Close, Stop, TooLong}
 use Rattle.program_io.specs.Chunk.{ChunkWithin, countIn}
-use Rattle.program_io.specs.Next.{chunksMost, nextDue, isContinue, isClose}
+use Rattle.program_io.specs.Next.{isWhole, chunksMost, nextDue, isContinue, isClose}
 use Rattle.program_io.proofs.Reading.{count-fits}
 use Rattle.program_io.proofs.Following.{is-continue, is-close, continue-full}
 use Rattle.aedr.specs.Printed.{piecesIn, allLines}
@@ -35,8 +35,8 @@ due-high TooLong done n = omega arith
 
 -- a chunk, from what its calls answered
 pub printed-chunk : (p : Progress) (full done read : ℕ) (buf out text : List ℕ) → length buf ≡ chunkSize → ChunkWithin (length buf) (p .chunk)
-    → read ≡ countIn (length buf) (p .chunk) → text ≡ allLines (take read buf) done → take (p .text) out ≡ text → p .text ≡ length text
-    → p .next ≡ nextDue full (eqb (p .written) (p .text)) (p .chunk) → p .records ≡ recordsDue (p .next) done read → ChunkPrinted p full done buf out
+    → read ≡ countIn (length buf) (p .chunk) → text ≡ allLines (take read buf) done → take (p .printed .size) out ≡ text → p .printed .size ≡ length text
+    → p .next ≡ nextDue full (isWhole (p .printed)) (p .chunk) → p .records ≡ recordsDue (p .next) done read → ChunkPrinted p full done buf out
 printed-chunk p full done read buf out text l w c e t s n d =
     let k : read ≡ countIn chunkSize (p .chunk) = c ∙ ap (λ (room : ℕ). countIn room (p .chunk)) l in
     let b : text ≡ allLines (bytesOf (p .chunk) buf) done = e ∙ ap (λ (m : ℕ). allLines (take m buf) done) k in
@@ -60,7 +60,7 @@ module _ (p : Progress) (full done : ℕ) (buf out : List ℕ) (h : ChunkPrinted
   pub goes-on : isContinue (p .next) ≡ true → done ≡ chunkPieces * full → (p .records ≡ chunkPieces * (full + 1)) × (full < chunksMost - 1)
   goes-on e d =
       let n : p .next ≡ Continue = is-continue (p .next) e in
-      let f = continue-full full (eqb (p .written) (p .text)) (p .chunk) (ap isContinue (sym (h .next)) ∙ e) in
+      let f = continue-full full (isWhole (p .printed)) (p .chunk) (ap isContinue (sym (h .next)) ∙ e) in
       let r : p .records ≡ recordsDue Continue done (countIn chunkSize Full) =
       h .records ∙ ap (λ (k : Next). recordsDue k done (countIn chunkSize (p .chunk))) n
       ∙ ap (λ (c : Chunk). recordsDue Continue done (countIn chunkSize c)) (f .0) in
@@ -80,7 +80,7 @@ module _ (p : Progress) (full done : ℕ) (buf out : List ℕ) (h : ChunkPrinted
 -- the check, before its closing line and with it
 module _ (r : Chunks) (buf out : List ℕ) (h : ChunksPrinted r buf out) where
   pub not-closed : isClose (r .last .next) ≡ false
-      → FileChecked (record { records = r .last .records; complete = false; full = r .full; chunk = r .last .chunk; text = r .last .text; written = r .last .written })
+      → FileChecked (record { records = r .last .records; complete = false; full = r .full; chunk = r .last .chunk; printed = r .last .printed })
   not-closed e = record {
     complete = sym (ap isClose (sym (h .last .next)) ∙ e);
     most = h .most;
@@ -89,10 +89,10 @@ module _ (r : Chunks) (buf out : List ℕ) (h : ChunksPrinted r buf out) where
     pieces = λ w. absurd (false≢true w);
   }
 
-  pub closed : isClose (r .last .next) ≡ true → (complete : Bool) (text written : ℕ)
-      → complete ≡ isClose (nextDue (r .full) (eqb written text) (r .last .chunk))
-      → FileChecked (record { records = r .last .records; complete = complete; full = r .full; chunk = r .last .chunk; text = text; written = written })
-  closed e complete text written w = record {
+  pub closed : isClose (r .last .next) ≡ true → (complete : Bool) (printed : Printed)
+      → complete ≡ isClose (nextDue (r .full) (isWhole printed) (r .last .chunk))
+      → FileChecked (record { records = r .last .records; complete = complete; full = r .full; chunk = r .last .chunk; printed = printed })
+  closed e complete printed w = record {
     complete = w;
     most = h .most;
     low = low (r .last) (r .full) (chunkPieces * r .full) buf out (h .last);

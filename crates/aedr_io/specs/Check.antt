@@ -3,13 +3,12 @@ use Prim.Native.Nat.{ℕ, _+_, _*_, _≤_}
 use mathlib.Core.Path.{_≡_}
 use mathlib.Core.Bool.{true, false}
 use mathlib.Core.List.{List}
-use lib.Dec.{eqb}
 use lib.ListN.{length, take}
 use Rattle.program_io.specs.declared.Chunk.{Chunk}
 use Rattle.program_io.specs.declared.Next.{Next}
 use Rattle.program_io.specs.declared.Next.the-variants.{Continue, Close, Stop, TooLong}
 use Rattle.program_io.specs.Chunk.{ChunkWithin, countIn}
-use Rattle.program_io.specs.Next.{chunksMost, nextDue, isContinue, isClose}
+use Rattle.program_io.specs.Next.{isWhole, chunksMost, nextDue, isContinue, isClose}
 use Rattle.aedr.specs.Printed.{piecesIn, allLines, total}
 use Rattle.aedr.specs.Chunks.{chunkPieces, chunkSize}
 use Rattle.aedr_io.specs.declared.Progress.{Progress}
@@ -31,9 +30,9 @@ bytesOf chunk buf = take (countIn chunkSize chunk) buf
 -- pieces; what follows goes by how its reads ended and whether all of the text was written.
 pub record ChunkPrinted (r : Progress) (full done : ℕ) (buf out : List ℕ) : Type 0 where
   pub within : ChunkWithin chunkSize (r .chunk)
-  pub text : take (r .text) out ≡ allLines (bytesOf (r .chunk) buf) done
-  pub size : r .text ≡ length (allLines (bytesOf (r .chunk) buf) done)
-  pub next : r .next ≡ nextDue full (eqb (r .written) (r .text)) (r .chunk)
+  pub text : take (r .printed .size) out ≡ allLines (bytesOf (r .chunk) buf) done
+  pub size : r .printed .size ≡ length (allLines (bytesOf (r .chunk) buf) done)
+  pub next : r .next ≡ nextDue full (isWhole (r .printed)) (r .chunk)
   pub records : r .records ≡ recordsDue (r .next) done (countIn chunkSize (r .chunk))
 
 -- All the chunks: the last comes after `full` ones of 213 pieces, and none follows it.
@@ -45,7 +44,7 @@ pub record ChunksPrinted (r : Chunks) (buf out : List ℕ) : Type 0 where
 -- What can be said of a check without its buffers. It is complete where the last chunk ended the input and all of the last text was written. The
 -- pieces are those of `full` chunks of 213 and of one of at most as many; those of a complete check are those of all the bytes that were read.
 pub record FileChecked (r : Checked) : Type 0 where
-  pub complete : r .complete ≡ isClose (nextDue (r .full) (eqb (r .written) (r .text)) (r .chunk))
+  pub complete : r .complete ≡ isClose (nextDue (r .full) (isWhole (r .printed)) (r .chunk))
   pub most : r .records ≤ chunkPieces * chunksMost
   pub low : chunkPieces * r .full ≤ r .records
   pub high : r .records ≤ chunkPieces * r .full + chunkPieces
@@ -54,5 +53,5 @@ pub record FileChecked (r : Checked) : Type 0 where
 -- A check, with what it leaves in out: the last text of a complete one is the total.
 pub record Ran (r : Checked) (out : List ℕ) : Type 0 where
   pub checked : FileChecked r
-  pub total-text : r .complete ≡ true → take (r .text) out ≡ total (r .records)
-  pub total-size : r .complete ≡ true → r .text ≡ length (total (r .records))
+  pub total-text : r .complete ≡ true → take (r .printed .size) out ≡ total (r .records)
+  pub total-size : r .complete ≡ true → r .printed .size ≡ length (total (r .records))

@@ -7,6 +7,7 @@
 // unproved: the promise of `check_file` would be met by a program that reads nothing and writes nothing. tests/program.rs runs the program.
 use program_io::Chunk;
 use program_io::Next;
+use program_io::Printed;
 ghost use mathlib.Core.Path.{_≡_};
 ghost use Prim.Native.Nat.{_*_, _≤_};
 ghost use lib.ListN.{length};
@@ -28,12 +29,10 @@ fn records_after(next: Next, records: u64, read: usize) -> u64
     }
 }
 
-// What a chunk came to once printed: its bytes, the length of its text, how much of that was written, what follows, and the pieces whose lines were
-// written so far.
+// What a chunk came to: its bytes, the printing of its text, what follows, and the pieces whose lines were written so far.
 struct Progress {
     chunk: Chunk,
-    text: usize,
-    written: usize,
+    printed: Printed,
     next: Next,
     records: u64,
 }
@@ -46,13 +45,12 @@ fn print_chunk(fd: i32, full: u64, records: u64, buf: &mut [u8], out: &mut [u8])
     let chunk = program_io::fill(fd, buf);
     let read = program_io::count(chunk, buf.len());
     let text = aedr::report(&buf[..read], records, out);
-    let written = program_io::print(&out[..text]);
-    let next = program_io::after_chunk(full, chunk, text, written);
+    let printed = program_io::print(&out[..text]);
+    let next = program_io::after_chunk(full, chunk, printed);
     let records = records_after(next, records, read);
     Progress {
         chunk,
-        text,
-        written,
+        printed,
         next,
         records,
     }
@@ -83,14 +81,13 @@ fn print_chunks(fd: i32, buf: &mut [u8], out: &mut [u8]) -> Chunks
 }
 
 // How many pieces had their lines written, and whether the input ended and all was written, the closing line too. For the contracts: how many
-// chunks filled the buffer and were written, the one after them, the length of the last text, and how much of it was written.
+// chunks filled the buffer and were written, the one after them, and the printing of the last text.
 pub struct Checked {
     pub records: u64,
     pub complete: bool,
     full: u64,
     chunk: Chunk,
-    text: usize,
-    written: usize,
+    printed: Printed,
 }
 
 // Prints the chunks, and where the input ended the closing line.
@@ -102,6 +99,7 @@ fn run(fd: i32, buf: &mut [u8], out: &mut [u8]) -> Checked
     let full = chunks.full;
     let last = chunks.last;
     let chunk = last.chunk;
+    let printed = last.printed;
     let next = last.next;
     let records = last.records;
     if !program_io::closes(next) {
@@ -110,21 +108,19 @@ fn run(fd: i32, buf: &mut [u8], out: &mut [u8]) -> Checked
             complete: false,
             full,
             chunk,
-            text: last.text,
-            written: last.written,
+            printed,
         };
     }
     let text = aedr::close(records, out);
-    let written = program_io::print(&out[..text]);
-    let next = program_io::after_chunk(full, chunk, text, written);
+    let printed = program_io::print(&out[..text]);
+    let next = program_io::after_chunk(full, chunk, printed);
     let complete = program_io::closes(next);
     Checked {
         records,
         complete,
         full,
         chunk,
-        text,
-        written,
+        printed,
     }
 }
 

@@ -1,11 +1,16 @@
 -- What follows a chunk.
 use Prim.Native.Nat.{ℕ, _-_, _^_}
 use mathlib.Core.Bool.{Bool, true, false, cond}
-use lib.Dec.{ltb}
+use lib.Dec.{ltb, eqb}
 use Rattle.program_io.specs.declared.Chunk.{Chunk}
 use Rattle.program_io.specs.declared.Chunk.the-variants as Ch
+use Rattle.program_io.specs.declared.Printed.{Printed}
 use Rattle.program_io.specs.declared.Next.{Next}
 use Rattle.program_io.specs.declared.Next.the-variants as Nx
+
+-- all of a text was written
+abbrev pub isWhole : Printed → Bool
+isWhole printed = eqb (printed .taken) (printed .size)
 
 -- the most chunks that are read: a loop has to end, and nothing says that the input does
 abbrev pub chunksMost : ℕ

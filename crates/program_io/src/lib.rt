@@ -6,10 +6,9 @@ use libc::STDOUT_FILENO;
 ghost use mathlib.Core.Path.{_≡_};
 ghost use mathlib.Core.Bool.{true};
 ghost use Prim.Native.Nat.{_+_, _<_, _≤_, _^_};
-ghost use lib.Dec.{eqb};
 ghost use lib.ListN.{length};
 ghost use Rattle.program_io.specs.Chunk.{readDue, ReadWithin, bytesIn, stepDue, ChunkWithin, countIn};
-ghost use Rattle.program_io.specs.Next.{nextDue, isContinue, isClose};
+ghost use Rattle.program_io.specs.Next.{isWhole, nextDue, isContinue, isClose};
 
 // 2^40, the most chunks that are read: a loop has to end, and nothing says that the input does.
 pub const CHUNKS: u64 = 1099511627776;
@@ -32,6 +31,12 @@ pub enum Chunk {
 enum Step {
     More(usize),
     Done(Chunk),
+}
+
+// What printing a text came to: its length, and how many of its bytes were taken.
+pub struct Printed {
+    size: usize,
+    taken: usize,
 }
 
 // What follows a chunk: another chunk; the closing text, for the input has ended; nothing, for a read or a write failed; or nothing, for CHUNKS were
@@ -138,11 +143,14 @@ fn write(fd: i32, text: &[u8]) -> usize
     count
 }
 
-// Writes the text to standard output, and answers how many of its bytes were taken.
-pub fn print(text: &[u8]) -> usize
-    ensures { λ r. ⌜ r ≤ length (now (text .entry)) ⌝ }
+// Writes the text to standard output.
+pub fn print(text: &[u8]) -> Printed
+    ensures { λ r. ⌜ (r .size ≡ length (now (text .entry))) × (r .taken ≤ r .size) ⌝ }
 {
-    write(STDOUT_FILENO, text)
+    Printed {
+        size: text.len(),
+        taken: write(STDOUT_FILENO, text),
+    }
 }
 
 // What follows a full chunk that was written, after `full` others. An input that is too long is told on standard error.
@@ -156,11 +164,11 @@ fn after_full(full: u64) -> Next
     Next::TooLong
 }
 
-// What follows a chunk after `full` others, with a text of so many bytes, of which so many were written.
-pub fn after_chunk(full: u64, chunk: Chunk, text: usize, written: usize) -> Next
-    ensures { λ r. ⌜ r ≡ nextDue full (eqb written text) chunk ⌝ }
+// What follows a chunk after `full` others, once its text was printed.
+pub fn after_chunk(full: u64, chunk: Chunk, printed: Printed) -> Next
+    ensures { λ r. ⌜ r ≡ nextDue full (isWhole printed) chunk ⌝ }
 {
-    if written != text {
+    if printed.taken != printed.size {
         return Next::Stop;
     }
     match chunk {

@@ -62,11 +62,12 @@ returns c =
     let x = c .before .after-chunk in
     let d = c .records-after in
     let l = f .kept .1 .0 ∙ s .pre .0 in
+    let z = t .ensures .0 ∙ sym (p .ensures .1 .1) in
     let text : List ℕ = report (take (n .result) (f .last .1 .0)) (a .records) (length (now (a .out))) in
     printed-chunk _ (a .full) (a .records) (n .result) (f .last .1 .0) _ text l (f .ensures) (n .ensures)
     (lines-due (f .last .1 .0) (n .result) (a .records) (length (now (a .out))) l (s .pre .1) (s .pre .2))
-    (stored text (now (a .out)) _ (p .result) (p .ensures .0 .0) (p .ensures .0 .1) (omega (arith, p .ensures .1 .0, p .kept .1 .1 .0)))
-    (p .ensures .0 .0) (x .ensures) (d .ensures)
+    (stored text (now (a .out)) _ (t .result .size) (z ∙ p .ensures .0 .0) (p .ensures .0 .1) (omega (arith, z, p .ensures .1 .0, p .kept .1 .1 .0)))
+    (z ∙ p .ensures .0 .0) (x .ensures) (d .ensures)
 
 pub print-chunk-spec : {M : Type 1} → statement M
 print-chunk-spec =

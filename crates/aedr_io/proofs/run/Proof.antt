@@ -27,7 +27,7 @@ same-length-2 c = search needs
 
 returns : tie.Need-returns
 returns c =
-    let r = c .before .before .before .before .before .before .before .print-chunks in
+    let r = c .before .before .before .before .before .before .before .before .print-chunks in
     record {
       checked = not-closed (r .result) _ _ (r .ensures) (sym (c .before .closes .ensures) ∙ not-true _ (c .if1 .taken));
       total-text = λ e. absurd (false≢true e);
@@ -60,14 +60,17 @@ same-length-4 c = search needs
 
 returns-2 : tie.Need-returns-2
 returns-2 c =
-    let r = c .before .before .before .before .before .before .before .before .before .before .before .before .before .before .before .print-chunks in
+    let s = c .before .before .before .before .before .before .before .before .before .before .before .before .before .before .before .before .before .before .before .before .before in
+    let r = c .before .before .before .before .before .before .before .before .before .before .before .before .before .before .before .before .print-chunks in
     let t = c .before .before .before .before .before .before .close in
-    let e = total-due (r .result .last .records) (length (r .last .1 .1 .0)) (omega (arith, r .kept .1 .1 .0, c .before .before .before .before .before .before .before .before .before .before .before .before .before .before .before .before .before .before .before .before .pre .1)) in
+    let e = total-due (r .result .last .records) (length (r .last .1 .1 .0)) (omega (arith, r .kept .1 .1 .0, s .pre .1)) in
+    let p = c .before .before .print in
+    let z = p .ensures .0 ∙ sym (t .ensures .1 .1) in
     let w = sym (c .before .before .before .before .before .before .before .before .before .closes .ensures) ∙ not-false _ (c .before .before .before .before .before .before .before .before .if1 .left) in
     record {
-      checked = closed (r .result) _ _ (r .ensures) w _ _ _ (c .closes2 .ensures ∙ ap isClose (c .before .after-chunk .ensures));
-      total-text = λ _. stored (total (r .result .last .records)) (r .last .1 .1 .0) _ (t .result) (t .ensures .0 .0 ∙ ap length e) (t .ensures .0 .1 ∙ ap (put (r .last .1 .1 .0) 0) e) (omega (arith, t .ensures .1 .0, t .kept .1 .0));
-      total-size = λ _. t .ensures .0 .0 ∙ ap length e;
+      checked = closed (r .result) _ _ (r .ensures) w _ _ (c .closes2 .ensures ∙ ap isClose (c .before .after-chunk .ensures));
+      total-text = λ _. stored (total (r .result .last .records)) (r .last .1 .1 .0) _ (p .result .size) (z ∙ t .ensures .0 .0 ∙ ap length e) (t .ensures .0 .1 ∙ ap (put (r .last .1 .1 .0) 0) e) (omega (arith, z, t .ensures .1 .0, t .kept .1 .0));
+      total-size = λ _. z ∙ t .ensures .0 .0 ∙ ap length e;
     }
 
 pub run-spec : {M : Type 1} → statement M
