@@ -4,7 +4,7 @@
 // to be printed for the whole input.
 //
 // No contract can say what is read or written. That the bytes in `buf` come from the descriptor and that the texts go to standard output stays
-// unproved: the promise of `check_file` would be met by a program that reads nothing and writes nothing. tests/program.rs runs the program.
+// unproved: a program that reads nothing and writes nothing would meet the promise of `check_file`. tests/program.rs runs the program.
 use program_io::Chunk;
 use program_io::Next;
 use program_io::Printed;
@@ -124,8 +124,8 @@ fn run(fd: i32, buf: &mut [u8], out: &mut [u8]) -> Checked
     }
 }
 
-// Checks the file on fd. It ends, and the count of pieces does not wrap. A failed read or write is told on standard error, and then nothing more
-// is written on standard output.
+// Checks the file on fd. It ends, the count of pieces does not wrap, and a complete check has counted the pieces of all that was read. A failed read
+// or write is told on standard error, and then nothing more is written on standard output: the decision is proved, the writing is not.
 pub fn check_file(fd: i32) -> Checked
     ensures { λ r. ⌜ FileChecked r ⌝ }
 {

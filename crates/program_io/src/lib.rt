@@ -1,6 +1,8 @@
-// Reading and writing, for every program. The calls stand in `read_once` and `write_once` alone; whatever is decided by their answers is a function
-// with an equation. No contract can say what a call of the system moves. So nothing here proves that the bytes in a buffer come from the descriptor
-// or that a text goes to standard output, nor that a failure is told on standard error: tests/program.rs runs a program to see these.
+// Reading and writing, for every program. The calls stand in `read_once` and `write_once` alone, and what is decided by their answers in functions
+// with an equation. A failure is told on standard error by the name of the call and errno's text, as `read: Is a directory`.
+//
+// No contract can say what a call of the system moves. So it stays unproved that the bytes in a buffer come from the descriptor, that a text goes to
+// standard output, and that a failure is told; tests/program.rs runs a program on inputs and outputs that fail.
 use libc::STDERR_FILENO;
 use libc::STDOUT_FILENO;
 ghost use mathlib.Core.Path.{_≡_};
@@ -10,8 +12,8 @@ ghost use lib.ListN.{length};
 ghost use Rattle.program_io.specs.Chunk.{readDue, ReadWithin, bytesIn, stepDue, ChunkWithin, countIn};
 ghost use Rattle.program_io.specs.Next.{isWhole, nextDue, isContinue, isClose};
 
-// 2^40, the most chunks that are read: a loop has to end, and nothing says that the input does.
-pub const CHUNKS: u64 = 1099511627776;
+// The most chunks that are read: a loop has to end, and nothing says that the input does.
+pub const CHUNKS: u64 = 1 << 40;
 
 // What a read came to.
 enum Read {
@@ -63,7 +65,7 @@ fn meaning(got: isize, rest: &[u8]) -> Read
     Read::Bytes(count)
 }
 
-// Reads once, to the start of rest. A failure is told on standard error by errno, which is still that of the read.
+// Reads once, to the start of rest. A failure is told at once, while errno is its own.
 fn read_once(fd: i32, rest: &mut [u8]) -> Read
     ensures { λ r. ⌜ ReadWithin (length (now (rest .exit))) r ⌝ }
 {
@@ -74,7 +76,7 @@ fn read_once(fd: i32, rest: &mut [u8]) -> Read
     read
 }
 
-// Writes once, and answers how many of the bytes were taken, from the first on. Where none was, it is told on standard error.
+// Writes once, and answers how many of the bytes were taken, from the first on. That none was is a failure.
 fn write_once(fd: i32, rest: &[u8]) -> usize
     ensures { λ r. ⌜ r ≤ length (now (rest .entry)) ⌝ }
 {
@@ -128,7 +130,7 @@ pub fn count(chunk: Chunk, room: usize) -> usize
     }
 }
 
-// Writes until all of the text is taken or a write takes nothing, and answers how many bytes were taken.
+// Writes until all of the text is taken or a write fails, and answers how many bytes were taken.
 fn write(fd: i32, text: &[u8]) -> usize
     ensures { λ r. ⌜ r ≤ length (now (text .entry)) ⌝ }
 {
