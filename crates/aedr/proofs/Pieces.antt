@@ -12,17 +12,17 @@ use Rattle.octets.specs.Refusal.{refuse_unless_else_, _then_}
 use Rattle.octets.proofs.Ladder.{fail-eq}
 use Rattle.packet_check.specs.Header.{headerRefusal}
 use Rattle.packet_check.specs.Refusal.{readRefusal}
-use Rattle.aedr.specs.Printed.{piece, answerOf}
+use Rattle.aedr.specs.Printed.{pieceSize, headerSize, publishedSumWord, piece, answerOf}
 
 -- a short piece is refused by its packet's length
-pub answer-short : (p : List ℕ) → length p < 1230 → 1 ≡ answerOf p
+pub answer-short : (p : List ℕ) → length p < pieceSize → 1 ≡ answerOf p
 unfolding answerOf readRefusal
-answer-short p h = fail-eq (length (drop 150 p)) 1080 1 _ (λ e. omega (arith, length-drop 150 p))
+answer-short p h = fail-eq (length (drop headerSize p)) 1080 1 _ (λ e. omega (arith, length-drop headerSize p))
 
 -- the packet of a piece
-pub answer-packet : (p : List ℕ) (n r : ℕ) → length p ≤ 150 + n → r ≡ readRefusal (part p 150 n) 70 → r ≡ answerOf p
+pub answer-packet : (p : List ℕ) (n r : ℕ) → length p ≤ headerSize + n → r ≡ readRefusal (part p headerSize n) publishedSumWord → r ≡ answerOf p
 unfolding answerOf
-answer-packet p n r h e = e ∙ ap (λ (z : List ℕ). readRefusal z 70) (take-all n (drop 150 p) (rw length-drop (omega arith)))
+answer-packet p n r h e = e ∙ ap (λ (z : List ℕ). readRefusal z publishedSumWord) (take-all n (drop headerSize p) (rw length-drop (omega arith)))
 
 -- a ladder gives none but its own numbers
 refuse-most : (m n next : ℕ) (b : Bool) → n ≤ m → next ≤ m → (refuse n unless b else next) ≤ m
@@ -42,20 +42,20 @@ header-most bs = refuse-most 10 3 _ _ (omega arith) (refuse-most 10 4 _ _ (omega
 
 answer-most : (p : List ℕ) → answerOf p ≤ 10
 unfolding answerOf readRefusal
-answer-most p = refuse-most 10 1 _ _ (omega arith) (refuse-most 10 2 _ _ (omega arith) (then-most 10 _ _ (header-most (drop 150 p))
+answer-most p = refuse-most 10 1 _ _ (omega arith) (refuse-most 10 2 _ _ (omega arith) (then-most 10 _ _ (header-most (drop headerSize p))
     (refuse-most 10 9 _ _ (omega arith) (refuse-most 10 10 _ _ (omega arith) (omega arith)))))
 
 -- a piece cut to the bytes that are left is the piece
-piece-cut : (input : List ℕ) (i n : ℕ) → n ≡ min 1230 (length input - 1230 * i) → part input (1230 * i) n ≡ piece input i
-piece-cut input i n e = go (decLe 1230 n)
+piece-cut : (input : List ℕ) (i n : ℕ) → n ≡ min pieceSize (length input - pieceSize * i) → part input (pieceSize * i) n ≡ piece input i
+piece-cut input i n e = go (decLe pieceSize n)
   where
-    go : Dec (1230 ≤ n) → part input (1230 * i) n ≡ piece input i
-    go (yes h) = let q : n ≡ 1230 = omega arith in ap (part input (1230 * i)) q
+    go : Dec (pieceSize ≤ n) → part input (pieceSize * i) n ≡ piece input i
+    go (yes h) = let q : n ≡ pieceSize = omega arith in ap (part input (pieceSize * i)) q
     go (no h) =
-        let d : List ℕ = drop (1230 * i) input in
+        let d : List ℕ = drop (pieceSize * i) input in
         let l : length d ≤ n = rw length-drop (omega arith) in
-        take-all n d l ∙ sym (take-all 1230 d (omega arith))
+        take-all n d l ∙ sym (take-all pieceSize d (omega arith))
 
-pub piece-answer : (input : List ℕ) (i n r : ℕ) → n ≡ min 1230 (length input - 1230 * i) → r ≡ answerOf (part input (1230 * i) n)
+pub piece-answer : (input : List ℕ) (i n r : ℕ) → n ≡ min pieceSize (length input - pieceSize * i) → r ≡ answerOf (part input (pieceSize * i) n)
     → (r ≡ answerOf (piece input i)) × (r < 100)
-piece-answer input i n r e q = (q ∙ ap answerOf (piece-cut input i n e), omega (arith, q, answer-most (part input (1230 * i) n)))
+piece-answer input i n r e q = (q ∙ ap answerOf (piece-cut input i n e), omega (arith, q, answer-most (part input (pieceSize * i) n)))

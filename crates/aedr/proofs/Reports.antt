@@ -1,5 +1,5 @@
 -- Laws of the lines and the closing line, as the functions store them.
-use Prim.Native.Nat.{ℕ, suc, _+_, _-_, _*_, _<_, _≤_}
+use Prim.Native.Nat.{ℕ, suc, _+_, _-_, _*_, _<_, _≤_, _^_}
 use mathlib.Core.Path.{_≡_, refl, sym, ap, _∙_}
 use mathlib.Core.Bool.{Bool, true, false, cond}
 use mathlib.Core.List.{List, [], _∷_, _++_}
@@ -11,8 +11,8 @@ use borrow.Author.Tests.{lt-ltb, le-ltb}
 use Rattle.octets.specs.Bytes.{put}
 use Rattle.aedr.specs.Decimal.{decimal}
 use Rattle.aedr.specs.Text.{TextAt}
-use Rattle.aedr.specs.Printed.{pieceCount, piece, answerOf, line, lines, total}
-use Rattle.aedr.specs.Turns.{report, closing}
+use Rattle.aedr.specs.Printed.{pieceCount, piece, answerOf, line, lines, allLines, total}
+use Rattle.aedr.specs.Chunks.{lineRoom, totalRoom, report, closing}
 use Rattle.aedr.proofs.Texts.{text-then, text-one, text-none}
 
 -- no line yet, and one line more
@@ -40,44 +40,44 @@ stored : (s text told t : List ℕ) (r : ℕ) → told ≡ text → TextAt s 0 t
 stored s text told t r e p = rw e (starts s text t r p)
 
 -- the report: nothing for want of room or of numbers, else the lines
-report-none : (input : List ℕ) (done room : ℕ) → room < 24 * pieceCount input → report input done room ≡ []
+report-none : (input : List ℕ) (done room : ℕ) → room < lineRoom * pieceCount input → report input done room ≡ []
 unfolding report
-report-none input done room h = rw (lt-ltb room (24 * pieceCount input) h)
+report-none input done room h = rw (lt-ltb room (lineRoom * pieceCount input) h)
 
-report-numbers : (input : List ℕ) (done room : ℕ) → 18446744073709551615 - done < pieceCount input → report input done room ≡ []
+report-numbers : (input : List ℕ) (done room : ℕ) → 2 ^ 64 - 1 - done < pieceCount input → report input done room ≡ []
 unfolding report
-report-numbers input done room h = rw (lt-ltb (18446744073709551615 - done) (pieceCount input) h) (both (ltb room (24 * pieceCount input)))
+report-numbers input done room h = rw (lt-ltb (2 ^ 64 - 1 - done) (pieceCount input) h) (both (ltb room (lineRoom * pieceCount input)))
   where
     both : (b : Bool) → _≡_ {A = List ℕ} (cond b [] []) []
     both true = refl
     both false = refl
 
-pub report-lines : (input : List ℕ) (done room : ℕ) → 24 * pieceCount input ≤ room → pieceCount input ≤ 18446744073709551615 - done
-    → report input done room ≡ lines input done (pieceCount input)
+pub report-lines : (input : List ℕ) (done room : ℕ) → lineRoom * pieceCount input ≤ room → pieceCount input ≤ 2 ^ 64 - 1 - done
+    → report input done room ≡ allLines input done
 unfolding report
-report-lines input done room h g = rw (le-ltb room (24 * pieceCount input) h, le-ltb (18446744073709551615 - done) (pieceCount input) g)
+report-lines input done room h g = rw (le-ltb room (lineRoom * pieceCount input) h, le-ltb (2 ^ 64 - 1 - done) (pieceCount input) g)
 
-pub no-room : (input s : List ℕ) (done : ℕ) → length s < 24 * pieceCount input → Starts s (report input done (length s)) 0 s
+pub no-room : (input s : List ℕ) (done : ℕ) → length s < lineRoom * pieceCount input → Starts s (report input done (length s)) 0 s
 no-room input s done h = stored s [] _ s 0 (report-none input done (length s) h) (text-none s 0)
 
-pub no-numbers : (input s : List ℕ) (done : ℕ) → 18446744073709551615 - done < pieceCount input → Starts s (report input done (length s)) 0 s
+pub no-numbers : (input s : List ℕ) (done : ℕ) → 2 ^ 64 - 1 - done < pieceCount input → Starts s (report input done (length s)) 0 s
 no-numbers input s done h = stored s [] _ s 0 (report-numbers input done (length s) h) (text-none s 0)
 
-pub all-lines : (input s t : List ℕ) (done c r : ℕ) → c ≡ pieceCount input → 24 * c ≤ length s → c ≤ 18446744073709551615 - done
+pub all-lines : (input s t : List ℕ) (done c r : ℕ) → c ≡ pieceCount input → lineRoom * c ≤ length s → c ≤ 2 ^ 64 - 1 - done
     → TextAt s 0 (lines input done c) r t → Starts s (report input done (length s)) r t
 all-lines input s t done c r e h g p =
     stored s (lines input done c) _ t r (report-lines input done (length s) (omega arith) (omega arith) ∙ ap (lines input done) (sym e)) p
 
 -- the closing line
-pub no-closing : (s : List ℕ) (n : ℕ) → length s < 29 → Starts s (closing n (length s)) 0 s
+pub no-closing : (s : List ℕ) (n : ℕ) → length s < totalRoom → Starts s (closing n (length s)) 0 s
 unfolding closing
-no-closing s n h = stored s [] _ s 0 (rw (lt-ltb (length s) 29 h)) (text-none s 0)
+no-closing s n h = stored s [] _ s 0 (rw (lt-ltb (length s) totalRoom h)) (text-none s 0)
 
-pub closing-total : (n room : ℕ) → 29 ≤ room → closing n room ≡ total n
+pub closing-total : (n room : ℕ) → totalRoom ≤ room → closing n room ≡ total n
 unfolding closing
-closing-total n room h = rw (le-ltb room 29 h)
+closing-total n room h = rw (le-ltb room totalRoom h)
 
-pub all-closing : (s t u : List ℕ) (n e : ℕ) → 29 ≤ length s → t ≡ put s 0 (114 ∷ 101 ∷ 99 ∷ 111 ∷ 114 ∷ 100 ∷ 115 ∷ 32 ∷ [])
+pub all-closing : (s t u : List ℕ) (n e : ℕ) → totalRoom ≤ length s → t ≡ put s 0 (114 ∷ 101 ∷ 99 ∷ 111 ∷ 114 ∷ 100 ∷ 115 ∷ 32 ∷ [])
     → TextAt t 8 (decimal n) e u → Starts s (closing n (length s)) (e + 1) (set u e 10)
 unfolding total
 all-closing s t u n e h q p =

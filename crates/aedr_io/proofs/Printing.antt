@@ -1,109 +1,101 @@
--- Laws of the count that goes on from turn to turn.
-use Prim.Native.Nat.{ℕ, _+_, _*_, _/_, _<_, _≤_, _^_}
-use mathlib.Core.Path.{_≡_, refl, ap, _∙_}
-use mathlib.Core.Bool.{Bool, true, false, false≢true, true≢false}
+-- Laws of the count that goes on from chunk to chunk.
+use Prim.Native.Nat.{ℕ, _+_, _-_, _*_, _<_, _≤_}
+use mathlib.Core.Path.{_≡_, refl, sym, ap, _∙_}
+use mathlib.Core.Bool.{Bool, true, false, false≢true}
 use mathlib.Core.List.{List}
 use native.Mathlib.Omega.{arith}
-use lib.Dec.{eqb}
-use lib.ListN.{length, take, length-take}
-use lib.Seq.{length-take-le}
-use borrow.Author.Tests.{eqb-true, eqb-false}
-use Rattle.io.specs.Counts.{Counts}
-use Rattle.aedr.specs.Printed.{piecesIn, pieceCount}
-use Rattle.aedr.specs.Turns.{report, closing}
-use Rattle.aedr_io.specs.declared.Turn.{Turn}
+use lib.ListN.{length, take}
+use Rattle.program_io.specs.declared.Chunk.{Chunk}
+use Rattle.program_io.specs.declared.Chunk.the-variants.{Full}
+use Rattle.program_io.specs.declared.Printed.{Printed}
+use Rattle.program_io.specs.declared.Next.{Next}
+use Rattle.program_io.specs.declared.Next.the-variants.{Continue, Close, Stop, TooLong}
+use Rattle.program_io.specs.Chunk.{ChunkWithin, countIn}
+use Rattle.program_io.specs.Next.{isWhole, chunksMost, nextDue, isContinue, isClose}
+use Rattle.program_io.proofs.Reading.{count-fits}
+use Rattle.program_io.proofs.Following.{is-continue, is-close, continue-full}
+use Rattle.aedr.specs.Printed.{piecesIn, allLines}
+use Rattle.aedr.specs.Chunks.{chunkPieces, chunkSize}
 use Rattle.aedr_io.specs.declared.Progress.{Progress}
-use Rattle.aedr_io.specs.declared.Turns.{Turns}
-use Rattle.aedr_io.specs.Turn.{turnText, TurnPrinted, Ended, TurnsPrinted, Ran}
+use Rattle.aedr_io.specs.declared.Chunks.{Chunks}
+use Rattle.aedr_io.specs.Check.{recordsDue, bytesOf, ChunkPrinted, ChunksPrinted, FileChecked}
 
-either : {P : Type 0} (b : Bool) → (b ≡ true → P) → (b ≡ false → P) → P
-either true t f = t refl
-either false t f = f refl
+-- a chunk adds no piece or all of its own
+due-low : (next : Next) (done n : ℕ) → done ≤ recordsDue next done n
+due-low Continue done n = omega arith
+due-low Close done n = omega arith
+due-low Stop done n = omega arith
+due-low TooLong done n = omega arith
 
--- a turn whose read or write failed
-pub turn-stops : (t : Turn) (done : ℕ) (buf out : List ℕ) → take (t .text) out ≡ turnText (t .failed) buf (t .read) done (length out)
-    → TurnPrinted (record { turn = t; written = false; records = done; more = false }) done buf out
-turn-stops t done buf out h = record {
-  text = h;
-  written = λ e. absurd (false≢true e);
-  failed = λ e. refl;
-  more = λ e. absurd (false≢true e);
-  last = λ e w. absurd (false≢true w);
-}
+due-high : (next : Next) (done n : ℕ) → recordsDue next done n ≤ done + piecesIn n
+due-high Continue done n = omega arith
+due-high Close done n = omega arith
+due-high Stop done n = omega arith
+due-high TooLong done n = omega arith
 
--- a turn that was written
-pub turn-written : (t : Turn) (done n : ℕ) (buf out : List ℕ) → take (t .text) out ≡ turnText (t .failed) buf (t .read) done (length out)
-    → t .failed ≡ false → Counts (t .read) buf → n ≡ (t .read + 1229) / 1230 → length buf ≡ 261990
-    → TurnPrinted (record { turn = t; written = true; records = done + n; more = eqb (t .read) (length buf) }) done buf out
-turn-written t done n buf out h f k p l = record {
-  text = h;
-  written = λ e. (f, ap (λ (m : ℕ). done + m) (p ∙ ap (λ (m : ℕ). (m + 1229) / 1230) (k .1)));
-  failed = λ e. absurd (true≢false e);
-  more = λ e. (refl, eqb-true (t .read) (length buf) e ∙ l);
-  last = λ e w. omega (arith, eqb-false (t .read) (length buf) e);
-}
+-- a chunk, from what its calls answered
+pub printed-chunk : (p : Progress) (full done read : ℕ) (buf out text : List ℕ) → length buf ≡ chunkSize → ChunkWithin (length buf) (p .chunk)
+    → read ≡ countIn (length buf) (p .chunk) → text ≡ allLines (take read buf) done → take (p .printed .size) out ≡ text → p .printed .size ≡ length text
+    → p .next ≡ nextDue full (isWhole (p .printed)) (p .chunk) → p .records ≡ recordsDue (p .next) done read → ChunkPrinted p full done buf out
+printed-chunk p full done read buf out text l w c e t s n d =
+    let k : read ≡ countIn chunkSize (p .chunk) = c ∙ ap (λ (room : ℕ). countIn room (p .chunk)) l in
+    let b : text ≡ allLines (bytesOf (p .chunk) buf) done = e ∙ ap (λ (m : ℕ). allLines (take m buf) done) k in
+    record {
+      within = rw l at w;
+      text = t ∙ b;
+      size = s ∙ ap length b;
+      next = n;
+      records = d ∙ ap (recordsDue (p .next) done) k;
+    }
 
--- the buffer has room for 213 pieces
-pieces-most : (n : ℕ) (buf : List ℕ) → length buf ≡ 261990 → pieceCount (take n buf) ≤ 213
-pieces-most n buf l = omega (arith, length-take n buf)
+module _ (p : Progress) (full done : ℕ) (buf out : List ℕ) (h : ChunkPrinted p full done buf out) where
+  low : done ≤ p .records
+  low = omega (arith, h .records, due-low (p .next) done (countIn chunkSize (p .chunk)))
 
--- a turn that another follows
-pub turns-more : (r : Progress) (full done : ℕ) (buf out : List ℕ) → TurnPrinted r done buf out → r .more ≡ true → done ≡ 213 * full
-    → length buf ≡ 261990 → r .records ≡ 213 * (full + 1)
-turns-more r full done buf out p m d l =
-    let n : r .turn .read ≡ 261990 = p .more m .1 in
-    omega (arith, p .written (p .more m .0) .1, length-take-le (r .turn .read) buf (omega arith))
+  high : p .records ≤ done + chunkPieces
+  high =
+      omega (arith, h .records, due-high (p .next) done (countIn chunkSize (p .chunk)), count-fits (p .chunk) chunkSize (h .within))
 
--- the last turn
-turns-last : (r : Progress) (full done : ℕ) (buf out : List ℕ) → TurnPrinted r done buf out → r .more ≡ false → r .written ≡ true → done ≡ 213 * full
-    → Ended (record { full = full; read = r .turn .read; text = r .turn .text; records = r .records; ended = r .written }) buf out
-unfolding turnText
-turns-last r full done buf out p m w d = record {
-  short = p .last m w;
-  pieces = p .written w .1 ∙ ap (λ (k : ℕ). k + pieceCount (take (r .turn .read) buf)) d;
-  text =
-      p .text ∙ ap (λ (b : Bool). turnText b buf (r .turn .read) done (length out)) (p .written w .0)
-      ∙ ap (λ (k : ℕ). report (take (r .turn .read) buf) k (length out)) d;
-}
+  -- one that another follows
+  pub goes-on : isContinue (p .next) ≡ true → done ≡ chunkPieces * full → (p .records ≡ chunkPieces * (full + 1)) × (full < chunksMost - 1)
+  goes-on e d =
+      let n : p .next ≡ Continue = is-continue (p .next) e in
+      let f = continue-full full (isWhole (p .printed)) (p .chunk) (ap isContinue (sym (h .next)) ∙ e) in
+      let r : p .records ≡ recordsDue Continue done (countIn chunkSize Full) =
+      h .records ∙ ap (λ (k : Next). recordsDue k done (countIn chunkSize (p .chunk))) n
+      ∙ ap (λ (c : Chunk). recordsDue Continue done (countIn chunkSize c)) (f .0) in
+      (omega arith, f .1)
 
-pub turns-end : (r : Progress) (full done : ℕ) (buf out : List ℕ) → TurnPrinted r done buf out → r .more ≡ false → done ≡ 213 * full → full < 2 ^ 40
-    → length buf ≡ 261990
-    → TurnsPrinted (record { full = full; read = r .turn .read; text = r .turn .text; records = r .records; ended = r .written }) buf out
-turns-end r full done buf out p m d h l = record {
-  most =
-      either (r .written) (λ w. omega (arith, p .written w .1, pieces-most (r .turn .read) buf l)) (λ w. omega (arith, p .failed w));
-  ended = λ w. turns-last r full done buf out p m w d;
-  failed = λ w. p .failed w ∙ d;
-}
+  -- the last
+  pub ends : isContinue (p .next) ≡ false → done ≡ chunkPieces * full → full < chunksMost → ChunksPrinted (record { full = full; last = p }) buf out
+  ends e d l = record { last = rw d at h; ended = e; most = omega (arith, high) }
 
--- too many turns
-pub turns-long : (full done : ℕ) (buf out : List ℕ) → done ≡ 213 * full → full ≤ 2 ^ 40
-    → TurnsPrinted (record { full = full; read = 0; text = 0; records = done; ended = false }) buf out
-turns-long full done buf out d h = record { most = omega arith; ended = λ w. absurd (false≢true w); failed = λ w. d }
+  -- the last that ended the input
+  pub all-pieces : isClose (p .next) ≡ true → done ≡ chunkPieces * full → p .records ≡ piecesIn (chunkSize * full + countIn chunkSize (p .chunk))
+  all-pieces e d =
+      let r : p .records ≡ recordsDue Close done (countIn chunkSize (p .chunk)) =
+      h .records ∙ ap (λ (k : Next). recordsDue k done (countIn chunkSize (p .chunk))) (is-close (p .next) e) in
+      omega arith
 
--- the closing line after the turns
-module _ (r : Turns) (buf out : List ℕ) (p : TurnsPrinted r buf out) (l : length buf ≡ 261990) where
-  turns-low : 213 * r .full ≤ r .records
-  turns-low = either (r .ended) (λ w. omega (arith, p .ended w .pieces)) (λ w. omega (arith, p .failed w))
-
-  turns-high : r .records ≤ 213 * r .full + 213
-  turns-high =
-      either (r .ended) (λ w. omega (arith, p .ended w .pieces, pieces-most (r .read) buf l)) (λ w. omega (arith, p .failed w))
-
-  turns-pieces : r .ended ≡ true → r .records ≡ piecesIn (261990 * r .full + r .read)
-  turns-pieces w =
-      let n : r .read < 261990 = p .ended w .short in
-      omega (arith, p .ended w .pieces, length-take-le (r .read) buf (omega arith))
-
-  pub not-closed : Ran (record { records = r .records; complete = false; full = r .full; read = r .read; total = 0 }) buf out
-  not-closed = record {
-    checked = record { most = p .most; low = turns-low; high = turns-high; complete = λ e. absurd (false≢true e) };
-    complete = λ e. absurd (false≢true e);
+-- the check, before its closing line and with it
+module _ (r : Chunks) (buf out : List ℕ) (h : ChunksPrinted r buf out) where
+  pub not-closed : isClose (r .last .next) ≡ false
+      → FileChecked (record { records = r .last .records; complete = false; full = r .full; chunk = r .last .chunk; printed = r .last .printed })
+  not-closed e = record {
+    complete = sym (ap isClose (sym (h .last .next)) ∙ e);
+    most = h .most;
+    low = low (r .last) (r .full) (chunkPieces * r .full) buf out (h .last);
+    high = high (r .last) (r .full) (chunkPieces * r .full) buf out (h .last);
+    pieces = λ w. absurd (false≢true w);
   }
 
-  pub closed : (now : List ℕ) (total : ℕ) (written : Bool) → r .ended ≡ true → take total now ≡ closing (r .records) (length now)
-      → Ran (record { records = r .records; complete = written; full = r .full; read = r .read; total = total }) buf now
-  closed now total written w q = record {
-    checked = record { most = p .most; low = turns-low; high = turns-high; complete = λ e. turns-pieces w };
-    complete = λ e. record { short = p .ended w .short; pieces = p .ended w .pieces; total = q };
+  pub closed : isClose (r .last .next) ≡ true → (complete : Bool) (printed : Printed)
+      → complete ≡ isClose (nextDue (r .full) (isWhole printed) (r .last .chunk))
+      → FileChecked (record { records = r .last .records; complete = complete; full = r .full; chunk = r .last .chunk; printed = printed })
+  closed e complete printed w = record {
+    complete = w;
+    most = h .most;
+    low = low (r .last) (r .full) (chunkPieces * r .full) buf out (h .last);
+    high = high (r .last) (r .full) (chunkPieces * r .full) buf out (h .last);
+    pieces = λ c. all-pieces (r .last) (r .full) (chunkPieces * r .full) buf out (h .last) e refl;
   }

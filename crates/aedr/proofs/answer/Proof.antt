@@ -4,6 +4,7 @@ use native.Mathlib.Omega.{arith}
 use lib.ListN.{length}
 use denote.Ref.{now}
 use borrow.Author.Needs.{needs}
+use Rattle.aedr.specs.Printed.{headerSize}
 use Rattle.aedr.proofs.Pieces.{answer-short, answer-packet}
 use Rattle.aedr.proofs.answer.Statement.{statement}
 use Rattle.aedr.proofs.answer.Tie as tie
@@ -25,7 +26,7 @@ packet-refusal-requires c κs = search needs
 
 returns-2 : tie.Need-returns-2
 returns-2 c =
-    let p = now (c .before .before .before .before .args .piece) in answer-packet p (length p - 150) _ (omega arith) (c .packet-refusal .ensures)
+    let p = now (c .before .before .before .before .args .piece) in answer-packet p (length p - headerSize) _ (omega arith) (c .packet-refusal .ensures)
 
 pub answer-spec : {M : Type 1} → statement M
 answer-spec =

@@ -4,6 +4,7 @@ use native.Mathlib.Omega.{arith}
 use lib.ListN.{length}
 use denote.Ref.{now}
 use borrow.Author.Needs.{needs}
+use Rattle.aedr.specs.Printed.{pieceSize}
 use Rattle.aedr.proofs.Pieces.{piece-answer}
 use Rattle.aedr.proofs.answer_at.Statement.{statement}
 use Rattle.aedr.proofs.answer_at.Tie as tie
@@ -29,7 +30,7 @@ answer-requires c κs = search needs
 returns : tie.Need-returns
 returns c =
     let a = c .before .before .before .before .args in
-    piece-answer (now (a .input)) (a .i) (length (now (a .input)) - 1230 * a .i) _ (omega arith) (c .answer .ensures)
+    piece-answer (now (a .input)) (a .i) (length (now (a .input)) - pieceSize * a .i) _ (omega arith) (c .answer .ensures)
 
 add-end : tie.Need-add-end
 add-end c = search needs
@@ -49,7 +50,7 @@ answer-requires-2 c κs = search needs
 returns-2 : tie.Need-returns-2
 returns-2 c =
     let a = c .before .before .before .before .args in
-    piece-answer (now (a .input)) (a .i) (1230 * a .i + 1230 - 1230 * a .i) _ (omega arith) (c .answer2 .ensures)
+    piece-answer (now (a .input)) (a .i) (pieceSize * a .i + pieceSize - pieceSize * a .i) _ (omega arith) (c .answer2 .ensures)
 
 pub answer-at-spec : {M : Type 1} → statement M
 answer-at-spec =

@@ -1,4 +1,4 @@
--- The lines of the first i pieces stand in the output, one more each turn.
+-- The lines of the first i pieces stand in the output, one more each time.
 use Prim.Native.Nat.{_-_, _*_, _≤_}
 use mathlib.Core.Path.{_≡_, refl, _∙_}
 use native.Mathlib.Omega.{arith}
@@ -6,6 +6,7 @@ use lib.ListN.{length}
 use denote.Ref.{now}
 use borrow.Author.Needs.{needs}
 use Rattle.aedr.specs.Printed.{lines}
+use Rattle.aedr.specs.Chunks.{lineRoom}
 use Rattle.aedr.specs.Text.{TextAt}
 use Rattle.aedr.proofs.Reports.{lines-none, lines-more}
 use Rattle.aedr.proofs.put_lines.Statement.{statement}
@@ -13,7 +14,7 @@ use Rattle.aedr.proofs.put_lines.Tie as tie
 
 abbrev Inv-loop : tie.InvT-loop
 Inv-loop input done count out₀ i₀ at₀ out i at =
-    (i ≤ count) × (at ≤ 24 * i) × (length out ≡ length out₀) × TextAt out₀ 0 (lines input done i) at out
+    (i ≤ count) × (at ≤ lineRoom * i) × (length out ≡ length out₀) × TextAt out₀ 0 (lines input done i) at out
 
 abbrev μ-loop : tie.MeasureT-loop
 μ-loop input done count out₀ i₀ at₀ out i at = count - i

@@ -1,13 +1,23 @@
--- What the turns came to, and the closing line.
+-- What the chunks came to, and the closing line.
+use mathlib.Core.Path.{sym, ap, _∙_}
+use mathlib.Core.Bool.{false≢true}
 use native.Mathlib.Omega.{arith}
-use borrow.Author.Tests.{not-false}
+use lib.ListN.{length}
+use borrow.Author.Tests.{not-true, not-false}
 use borrow.Author.Needs.{needs}
+use Rattle.octets.specs.Bytes.{put}
+use Rattle.program_io.specs.Next.{isClose}
+use Rattle.aedr.specs.Printed.{total}
+use Rattle.aedr_io.proofs.Texts.{stored, total-due}
 use Rattle.aedr_io.proofs.Printing.{not-closed, closed}
 use Rattle.aedr_io.proofs.run.Statement.{statement}
 use Rattle.aedr_io.proofs.run.Tie as tie
 
-print-turns-requires : tie.Need-print-turns-requires
-print-turns-requires c κs = search needs
+print-chunks-requires : tie.Need-print-chunks-requires
+print-chunks-requires c κs = search needs
+
+closes-requires : tie.Need-closes-requires
+closes-requires c κs = search needs
 
 same-length : tie.Need-same-length
 same-length c = search needs
@@ -17,10 +27,30 @@ same-length-2 c = search needs
 
 returns : tie.Need-returns
 returns c =
-    let t = c .before .before .before .before .before .before .print-turns in not-closed (t .result) _ _ (t .ensures) (omega arith)
+    let r = c .before .before .before .before .before .before .before .before .print-chunks in
+    record {
+      checked = not-closed (r .result) _ _ (r .ensures) (sym (c .before .closes .ensures) ∙ not-true _ (c .if1 .taken));
+      total-text = λ e. absurd (false≢true e);
+      total-size = λ e. absurd (false≢true e);
+    }
 
-print-total-requires : tie.Need-print-total-requires
-print-total-requires c κs = search needs
+close-requires : tie.Need-close-requires
+close-requires c κs = search needs
+
+slice-reshare-prefix-print : tie.Need-slice-reshare-prefix-print
+slice-reshare-prefix-print c = search needs
+
+slice-aggregate-print : tie.Need-slice-aggregate-print
+slice-aggregate-print c = search needs
+
+print-requires : tie.Need-print-requires
+print-requires c κs = search needs
+
+after-chunk-requires : tie.Need-after-chunk-requires
+after-chunk-requires c κs = search needs
+
+closes-requires-2 : tie.Need-closes-requires-2
+closes-requires-2 c κs = search needs
 
 same-length-3 : tie.Need-same-length-3
 same-length-3 c = search needs
@@ -30,19 +60,34 @@ same-length-4 c = search needs
 
 returns-2 : tie.Need-returns-2
 returns-2 c =
-    let t = c .before .before .before .before .before .before .before .before .before .before .print-turns in
-    let p = c .before .before .print-total in
-    closed (t .result) _ _ (t .ensures) (omega arith) _ (p .result .text) (p .result .written) (not-false _ (c .before .before .before .before .if1 .left)) (p .ensures)
+    let s = c .before .before .before .before .before .before .before .before .before .before .before .before .before .before .before .before .before .before .before .before .before in
+    let r = c .before .before .before .before .before .before .before .before .before .before .before .before .before .before .before .before .print-chunks in
+    let t = c .before .before .before .before .before .before .close in
+    let e = total-due (r .result .last .records) (length (r .last .1 .1 .0)) (omega (arith, r .kept .1 .1 .0, s .pre .1)) in
+    let p = c .before .before .print in
+    let z = p .ensures .0 ∙ sym (t .ensures .1 .1) in
+    let w = sym (c .before .before .before .before .before .before .before .before .before .closes .ensures) ∙ not-false _ (c .before .before .before .before .before .before .before .before .if1 .left) in
+    record {
+      checked = closed (r .result) _ _ (r .ensures) w _ _ (c .closes2 .ensures ∙ ap isClose (c .before .after-chunk .ensures));
+      total-text = λ _. stored (total (r .result .last .records)) (r .last .1 .1 .0) _ (p .result .size) (z ∙ t .ensures .0 .0 ∙ ap length e) (t .ensures .0 .1 ∙ ap (put (r .last .1 .1 .0) 0) e) (omega (arith, z, t .ensures .1 .0, t .kept .1 .0));
+      total-size = λ _. z ∙ t .ensures .0 .0 ∙ ap length e;
+    }
 
 pub run-spec : {M : Type 1} → statement M
 run-spec =
     tie.close
     (tie.spec
-    print-turns-requires
+    print-chunks-requires
+    closes-requires
     same-length
     same-length-2
     returns
-    print-total-requires
+    close-requires
+    slice-reshare-prefix-print
+    slice-aggregate-print
+    print-requires
+    after-chunk-requires
+    closes-requires-2
     same-length-3
     same-length-4
     returns-2)

@@ -1,0 +1,26 @@
+-- Another chunk, or one too many.
+use Prim.Native.Nat.{_-_}
+use borrow.Author.Tests.{lt-ltb, le-ltb}
+use borrow.Author.Needs.{needs}
+use Rattle.program_io.specs.Next.{chunksMost}
+use Rattle.program_io.proofs.after_full.Statement.{statement}
+use Rattle.program_io.proofs.after_full.Tie as tie
+
+sub-if1 : tie.Need-sub-if1
+sub-if1 c = search needs
+
+returns : tie.Need-returns
+returns c = rw (lt-ltb (c .before .args .full) (chunksMost - 1) (c .if1 .taken))
+
+slice-aggregate-write : tie.Need-slice-aggregate-write
+slice-aggregate-write c = search needs
+
+write-requires : tie.Need-write-requires
+write-requires c κs = search needs
+
+returns-2 : tie.Need-returns-2
+returns-2 c = rw (le-ltb (c .before .before .before .args .full) (chunksMost - 1) (c .before .before .if1 .left))
+
+pub after-full-spec : {M : Type 1} → statement M
+after-full-spec =
+    tie.close (tie.spec sub-if1 returns slice-aggregate-write write-requires returns-2)
