@@ -10,6 +10,6 @@ use Rattle.packet.specs.Read.{readDue}
 
 -- its number is the ladder's, and not 0
 pub handed-on : (b : List ℕ) (word k r : ℕ) → refused k ≡ readDue b word → r ≡ k → (r ≡ readRefusal b word) × (r ≡ 0 → ⊥)
-handed-on b w k r e q =
+handed-on b word k r e q =
     let h = refusal-said k (readRefusal b word) (fieldsOf b) e in
     (q ∙ h .0, λ z. h .1 (sym (q ∙ h .0) ∙ z))
