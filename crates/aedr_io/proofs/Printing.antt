@@ -82,6 +82,7 @@ module _ (r : Chunks) (buf out : List ℕ) (h : ChunksPrinted r buf out) where
   pub not-closed : isClose (r .last .next) ≡ false
       → FileChecked (record { records = r .last .records; complete = false; full = r .full; chunk = r .last .chunk; printed = r .last .printed })
   not-closed e = record {
+    within = h .last .within;
     complete = sym (ap isClose (sym (h .last .next)) ∙ e);
     most = h .most;
     low = low (r .last) (r .full) (chunkPieces * r .full) buf out (h .last);
@@ -93,6 +94,7 @@ module _ (r : Chunks) (buf out : List ℕ) (h : ChunksPrinted r buf out) where
       → complete ≡ isClose (nextDue (r .full) (isWhole printed) (r .last .chunk))
       → FileChecked (record { records = r .last .records; complete = complete; full = r .full; chunk = r .last .chunk; printed = printed })
   closed e complete printed w = record {
+    within = h .last .within;
     complete = w;
     most = h .most;
     low = low (r .last) (r .full) (chunkPieces * r .full) buf out (h .last);

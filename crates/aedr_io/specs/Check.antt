@@ -44,6 +44,7 @@ pub record ChunksPrinted (r : Chunks) (buf out : List ℕ) : Type 0 where
 -- What can be said of a check without its buffers. It is complete where the last chunk ended the input and all of the last text was written. The
 -- pieces are those of `full` chunks of 213 and of one of at most as many; those of a complete check are those of all the bytes that were read.
 pub record FileChecked (r : Checked) : Type 0 where
+  pub within : ChunkWithin chunkSize (r .chunk)
   pub complete : r .complete ≡ isClose (nextDue (r .full) (isWhole (r .printed)) (r .chunk))
   pub most : r .records ≤ chunkPieces * chunksMost
   pub low : chunkPieces * r .full ≤ r .records
