@@ -12,7 +12,8 @@ use Rattle.octets.specs.Refusal.{refuse_unless_else_, _then_}
 use Rattle.octets.proofs.Ladder.{fail-eq}
 use Rattle.packet_check.specs.Header.{headerRefusal}
 use Rattle.packet_check.specs.Refusal.{readRefusal}
-use Rattle.aedr.specs.Printed.{pieceSize, headerSize, publishedSumWord, piece, answerOf}
+use Rattle.packet_layout.specs.SumWord.{publishedSumWord}
+use Rattle.aedr.specs.Printed.{pieceSize, headerSize, piece, answerOf}
 
 -- a short piece is refused by its packet's length
 pub answer-short : (p : List ℕ) → length p < pieceSize → 1 ≡ answerOf p

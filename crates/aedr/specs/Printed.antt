@@ -4,6 +4,7 @@ use Prim.Native.Nat.{ℕ, zero, suc, _+_, _-_, _*_, _/_}
 use mathlib.Core.List.{List, [], _∷_, _++_}
 use lib.ListN.{length, drop}
 use Rattle.octets.specs.Bytes.{part}
+use Rattle.packet_layout.specs.SumWord.{publishedSumWord}
 use Rattle.packet_check.specs.Refusal.{readRefusal}
 use Rattle.aedr.specs.Decimal.{decimal}
 
@@ -13,10 +14,6 @@ pieceSize = 1230
 
 abbrev pub headerSize : ℕ
 headerSize = 150
-
--- the sum's place that document 004 publishes for science packets
-abbrev pub publishedSumWord : ℕ
-publishedSumWord = 70
 
 -- how many pieces n bytes are cut into, and how many the input has
 abbrev pub piecesIn : ℕ → ℕ

@@ -10,7 +10,7 @@ use Rattle.program_io.specs.declared.Chunk.the-variants.{Full}
 use Rattle.program_io.specs.declared.Printed.{Printed}
 use Rattle.program_io.specs.declared.Next.{Next}
 use Rattle.program_io.specs.declared.Next.the-variants.{Continue, Close, Stop, TooLong}
-use Rattle.program_io.specs.Chunk.{ChunkWithin, countIn}
+use Rattle.program_io.specs.Chunk.{ChunkWithin, chunkBytes}
 use Rattle.program_io.specs.Next.{isWhole, chunksMost, nextDue, isContinue, isClose}
 use Rattle.program_io.proofs.Reading.{count-fits}
 use Rattle.program_io.proofs.Following.{is-continue, is-close, continue-full}
@@ -35,10 +35,10 @@ due-high TooLong done n = omega arith
 
 -- a chunk, from what its calls answered
 pub printed-chunk : (p : Progress) (full done read : ℕ) (buf out text : List ℕ) → length buf ≡ chunkSize → ChunkWithin (length buf) (p .chunk)
-    → read ≡ countIn (length buf) (p .chunk) → text ≡ allLines (take read buf) done → take (p .printed .size) out ≡ text → p .printed .size ≡ length text
+    → read ≡ chunkBytes (length buf) (p .chunk) → text ≡ allLines (take read buf) done → take (p .printed .size) out ≡ text → p .printed .size ≡ length text
     → p .next ≡ nextDue full (isWhole (p .printed)) (p .chunk) → p .records ≡ recordsDue (p .next) done read → ChunkPrinted p full done buf out
 printed-chunk p full done read buf out text l w c e t s n d =
-    let k : read ≡ countIn chunkSize (p .chunk) = c ∙ ap (λ (room : ℕ). countIn room (p .chunk)) l in
+    let k : read ≡ chunkBytes chunkSize (p .chunk) = c ∙ ap (λ (room : ℕ). chunkBytes room (p .chunk)) l in
     let b : text ≡ allLines (bytesOf (p .chunk) buf) done = e ∙ ap (λ (m : ℕ). allLines (take m buf) done) k in
     record {
       within = rw l at w;
@@ -50,20 +50,20 @@ printed-chunk p full done read buf out text l w c e t s n d =
 
 module _ (p : Progress) (full done : ℕ) (buf out : List ℕ) (h : ChunkPrinted p full done buf out) where
   low : done ≤ p .records
-  low = omega (arith, h .records, due-low (p .next) done (countIn chunkSize (p .chunk)))
+  low = omega (arith, h .records, due-low (p .next) done (chunkBytes chunkSize (p .chunk)))
 
   high : p .records ≤ done + chunkPieces
   high =
-      omega (arith, h .records, due-high (p .next) done (countIn chunkSize (p .chunk)), count-fits (p .chunk) chunkSize (h .within))
+      omega (arith, h .records, due-high (p .next) done (chunkBytes chunkSize (p .chunk)), count-fits (p .chunk) chunkSize (h .within))
 
   -- one that another follows
   pub goes-on : isContinue (p .next) ≡ true → done ≡ chunkPieces * full → (p .records ≡ chunkPieces * (full + 1)) × (full < chunksMost - 1)
   goes-on e d =
       let n : p .next ≡ Continue = is-continue (p .next) e in
       let f = continue-full full (isWhole (p .printed)) (p .chunk) (ap isContinue (sym (h .next)) ∙ e) in
-      let r : p .records ≡ recordsDue Continue done (countIn chunkSize Full) =
-      h .records ∙ ap (λ (k : Next). recordsDue k done (countIn chunkSize (p .chunk))) n
-      ∙ ap (λ (c : Chunk). recordsDue Continue done (countIn chunkSize c)) (f .0) in
+      let r : p .records ≡ recordsDue Continue done (chunkBytes chunkSize Full) =
+      h .records ∙ ap (λ (k : Next). recordsDue k done (chunkBytes chunkSize (p .chunk))) n
+      ∙ ap (λ (c : Chunk). recordsDue Continue done (chunkBytes chunkSize c)) (f .0) in
       (omega arith, f .1)
 
   -- the last
@@ -71,10 +71,10 @@ module _ (p : Progress) (full done : ℕ) (buf out : List ℕ) (h : ChunkPrinted
   ends e d l = record { last = rw d at h; ended = e; most = omega (arith, high) }
 
   -- the last that ended the input
-  pub all-pieces : isClose (p .next) ≡ true → done ≡ chunkPieces * full → p .records ≡ piecesIn (chunkSize * full + countIn chunkSize (p .chunk))
+  pub all-pieces : isClose (p .next) ≡ true → done ≡ chunkPieces * full → p .records ≡ piecesIn (chunkSize * full + chunkBytes chunkSize (p .chunk))
   all-pieces e d =
-      let r : p .records ≡ recordsDue Close done (countIn chunkSize (p .chunk)) =
-      h .records ∙ ap (λ (k : Next). recordsDue k done (countIn chunkSize (p .chunk))) (is-close (p .next) e) in
+      let r : p .records ≡ recordsDue Close done (chunkBytes chunkSize (p .chunk)) =
+      h .records ∙ ap (λ (k : Next). recordsDue k done (chunkBytes chunkSize (p .chunk))) (is-close (p .next) e) in
       omega arith
 
 -- the check, before its closing line and with it

@@ -7,7 +7,7 @@ use lib.ListN.{length, take}
 use Rattle.program_io.specs.declared.Chunk.{Chunk}
 use Rattle.program_io.specs.declared.Next.{Next}
 use Rattle.program_io.specs.declared.Next.the-variants.{Continue, Close, Stop, TooLong}
-use Rattle.program_io.specs.Chunk.{ChunkWithin, countIn}
+use Rattle.program_io.specs.Chunk.{ChunkWithin, chunkBytes}
 use Rattle.program_io.specs.Next.{isWhole, chunksMost, nextDue, isContinue, isClose}
 use Rattle.aedr.specs.Printed.{piecesIn, allLines, total}
 use Rattle.aedr.specs.Chunks.{chunkPieces, chunkSize}
@@ -24,7 +24,7 @@ recordsDue TooLong done n = done + piecesIn n
 
 -- the bytes of a chunk in the buffer
 abbrev pub bytesOf : Chunk → List ℕ → List ℕ
-bytesOf chunk buf = take (countIn chunkSize chunk) buf
+bytesOf chunk buf = take (chunkBytes chunkSize chunk) buf
 
 -- A chunk after `full` others of `done` pieces, with what it leaves in buf and out: its text is the lines of its bytes, numbered on from those
 -- pieces; what follows goes by how its reads ended and whether all of the text was written.
@@ -33,7 +33,7 @@ pub record ChunkPrinted (r : Progress) (full done : ℕ) (buf out : List ℕ) : 
   pub text : take (r .printed .size) out ≡ allLines (bytesOf (r .chunk) buf) done
   pub size : r .printed .size ≡ length (allLines (bytesOf (r .chunk) buf) done)
   pub next : r .next ≡ nextDue full (isWhole (r .printed)) (r .chunk)
-  pub records : r .records ≡ recordsDue (r .next) done (countIn chunkSize (r .chunk))
+  pub records : r .records ≡ recordsDue (r .next) done (chunkBytes chunkSize (r .chunk))
 
 -- All the chunks: the last comes after `full` ones of 213 pieces, and none follows it.
 pub record ChunksPrinted (r : Chunks) (buf out : List ℕ) : Type 0 where
@@ -49,7 +49,7 @@ pub record FileChecked (r : Checked) : Type 0 where
   pub most : r .records ≤ chunkPieces * chunksMost
   pub low : chunkPieces * r .full ≤ r .records
   pub high : r .records ≤ chunkPieces * r .full + chunkPieces
-  pub pieces : r .complete ≡ true → r .records ≡ piecesIn (chunkSize * r .full + countIn chunkSize (r .chunk))
+  pub pieces : r .complete ≡ true → r .records ≡ piecesIn (chunkSize * r .full + chunkBytes chunkSize (r .chunk))
 
 -- A check, with what it leaves in out: the last text of a complete one is the total.
 pub record Ran (r : Checked) (out : List ℕ) : Type 0 where

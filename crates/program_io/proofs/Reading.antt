@@ -13,7 +13,7 @@ use Rattle.program_io.specs.declared.Chunk.{Chunk}
 use Rattle.program_io.specs.declared.Chunk.the-variants as Ch
 use Rattle.program_io.specs.declared.Step.{Step}
 use Rattle.program_io.specs.declared.Step.the-variants as St
-use Rattle.program_io.specs.Chunk.{readDue, ReadWithin, bytesIn, stepDue, ChunkWithin, countIn}
+use Rattle.program_io.specs.Chunk.{readDue, ReadWithin, bytesIn, stepDue, ChunkWithin, chunkBytes}
 
 -- the three answers
 pub read-failed : (got : ℤ) (room : ℕ) → ltZ got (pos 0) ≡ true → Rd.Failed ≡ readDue got room
@@ -62,7 +62,7 @@ step-done (Rd.Bytes m) count room chunk e h = absurd (other e)
     other q = let z : _≡_ {A = ℕ} 0 1 = cc in omega arith
 
 -- the bytes of a chunk fit the buffer
-pub count-fits : (chunk : Chunk) (room : ℕ) → ChunkWithin room chunk → countIn room chunk ≤ room
+pub count-fits : (chunk : Chunk) (room : ℕ) → ChunkWithin room chunk → chunkBytes room chunk ≤ room
 count-fits Ch.Failed room h = omega arith
 count-fits Ch.Full room h = omega arith
 count-fits (Ch.Last n) room h = omega arith

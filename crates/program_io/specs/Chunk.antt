@@ -40,7 +40,7 @@ ChunkWithin room (Ch.Last n) = n < room
 ChunkWithin room Ch.Failed = Unit
 
 -- the bytes of a chunk, at the start of a buffer of `room` bytes
-abbrev pub countIn : ℕ → Chunk → ℕ
-countIn room Ch.Full = room
-countIn room (Ch.Last n) = n
-countIn room Ch.Failed = 0
+abbrev pub chunkBytes : ℕ → Chunk → ℕ
+chunkBytes room Ch.Full = room
+chunkBytes room (Ch.Last n) = n
+chunkBytes room Ch.Failed = 0

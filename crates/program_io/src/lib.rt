@@ -9,7 +9,7 @@ ghost use mathlib.Core.Path.{_≡_};
 ghost use mathlib.Core.Bool.{true};
 ghost use Prim.Native.Nat.{_+_, _<_, _≤_, _^_};
 ghost use lib.ListN.{length};
-ghost use Rattle.program_io.specs.Chunk.{readDue, ReadWithin, bytesIn, stepDue, ChunkWithin, countIn};
+ghost use Rattle.program_io.specs.Chunk.{readDue, ReadWithin, bytesIn, stepDue, ChunkWithin, chunkBytes};
 ghost use Rattle.program_io.specs.Next.{isWhole, nextDue, isContinue, isClose};
 
 // The most chunks that are read: a loop has to end, and nothing says that the input does.
@@ -121,7 +121,7 @@ pub fn fill(fd: i32, buf: &mut [u8]) -> Chunk
 
 // How many bytes of a buffer of `room` bytes are the chunk's, from the first on. After a failed read none is.
 pub fn count(chunk: Chunk, room: usize) -> usize
-    ensures { λ r. ⌜ r ≡ countIn room chunk ⌝ }
+    ensures { λ r. ⌜ r ≡ chunkBytes room chunk ⌝ }
 {
     match chunk {
         Chunk::Failed => 0,

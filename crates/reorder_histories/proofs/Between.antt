@@ -240,7 +240,7 @@ played-after offered σ u v (b ∷ bs) t q =
     )
 
 pub played : (cs : List Call) (offered : Bool) (σ : State) → Supposed offered σ cs → Played offered σ (offers cs) (run σ cs)
-unfolding Supposed Played offers Any.run afterTurns
+unfolding Supposed Played offers Any.runBy afterTurns
 played [] offered σ f = (0, f, refl)
 played (offer b ∷ cs) offered σ f = (0, f .0, f .1, played cs true (step σ (offer b)) (f .2))
 played (serve out ∷ cs) offered σ f =

@@ -14,7 +14,7 @@ use Rattle.reorder_session.specs.declared.Session.{Session}
 use Rattle.reorder_session.specs.Session.{single}
 use Rattle.reorder_offer.specs.Opening.{openOf, Opens}
 use Rattle.reorder_offer.proofs.Opening.{opens-itself}
-use Rattle.reorder_histories.specs.History.{Call, offer, serve, drain, pass, offerTells, serveTells, drainTells, passTells, State, start, step, run, MadeBy, CallMade, IsStep, IsPassStep}
+use Rattle.reorder_histories.specs.History.{Call, offer, serve, drain, pass, offerTells, serveTells, drainTells, passTells, State, start, step, runBy, run, MadeBy, CallMade, IsStep, IsPassStep}
 use Rattle.reorder_histories.specs.Histories.{Consumer, atStart, atEnd, HigherThresholdLosesNothing}
 use Rattle.reorder_histories.specs.Made.{OpenMade, IsStart, ConsumerMade, HistoriesLoseNothing}
 
@@ -54,17 +54,16 @@ module _ {S : Type 0} (B : Buffer S) where
 
 -- ---- histories, whatever makes the calls
 
-pub made-runs : {S : Type 0} (B : Buffer S) (calls : State S → Call → State S → Type 0) → ((σ τ : State S) (c : Call) → calls σ c τ → τ ≡ step B σ c)
-    → (σ τ : State S) (cs : List Call) → MadeBy calls σ cs τ → τ ≡ run B σ cs
-unfolding MadeBy run
-made-runs B calls is-step σ τ [] e = e
-made-runs B calls is-step σ τ (c ∷ cs) (υ, d, m) = made-runs B calls is-step υ τ cs m ∙ ap (λ (x : State _). run B x cs) (is-step σ υ c d)
+module _ {X C : Type 0} (by : X → C → X) (calls : X → C → X → Type 0) where
+  pub made-runs : ((σ τ : X) (c : C) → calls σ c τ → τ ≡ by σ c) → (σ τ : X) (cs : List C) → MadeBy calls σ cs τ → τ ≡ runBy by σ cs
+  unfolding MadeBy runBy
+  made-runs is-step σ τ [] e = e
+  made-runs is-step σ τ (c ∷ cs) (υ, d, m) = made-runs is-step υ τ cs m ∙ ap (λ (x : X). runBy by x cs) (is-step σ υ c d)
 
-made-holds : {S : Type 0} (B : Buffer S) (calls : State S → Call → State S → Type 0) → ((σ : State S) (c : Call) → calls σ c (step B σ c))
-    → (σ : State S) (cs : List Call) → MadeBy calls σ cs (run B σ cs)
-unfolding MadeBy run
-made-holds B calls holds σ [] = refl
-made-holds B calls holds σ (c ∷ cs) = (step B σ c, holds σ c, made-holds B calls holds (step B σ c) cs)
+  pub made-holds : ((σ : X) (c : C) → calls σ c (by σ c)) → (σ : X) (cs : List C) → MadeBy calls σ cs (runBy by σ cs)
+  unfolding MadeBy runBy
+  made-holds holds σ [] = refl
+  made-holds holds σ (c ∷ cs) = (by σ c, holds σ c, made-holds holds (by σ c) cs)
 
 -- ---- the reorder buffer of one consumer
 
@@ -100,15 +99,15 @@ start-made s store b threshold word =
 
 comes-to-end : (c : Consumer) (b : List ℕ) (word : ℕ) (τ : State Session) → ConsumerMade c b word τ → τ ≡ atEnd c b word
 comes-to-end c b word τ (σ, o, m) =
-    made-runs single (CallMade single) (made-step single) σ τ (c .calls) m ∙ ap (λ (x : State Session). run single x (c .calls)) (made-start _ _ b _ word σ o)
+    made-runs (step single) (CallMade single) (made-step single) σ τ (c .calls) m ∙ ap (λ (x : State Session). run single x (c .calls)) (made-start _ _ b _ word σ o)
 
 pub histories-lose-nothing : HigherThresholdLosesNothing → HistoriesLoseNothing
 histories-lose-nothing h =
     record {
       can-hold = λ c b word.
-          (atStart c b word, start-made (c .before) (c .store) b (c .threshold) word, made-holds single (CallMade single) step-made (atStart c b word) (c .calls));
+          (atStart c b word, start-made (c .before) (c .store) b (c .threshold) word, made-holds (step single) (CallMade single) step-made (atStart c b word) (c .calls));
       is-start = made-start;
       is-step = made-step single;
-      are-runs = made-runs single (CallMade single) (made-step single);
+      are-runs = made-runs (step single) (CallMade single) (made-step single);
       lose-nothing = λ less more b word σ τ o m n. rw (comes-to-end less b word σ m, comes-to-end more b word τ n) (h less more b word o);
     }

@@ -75,6 +75,11 @@ pub record State (S : Type 0) : Type 0 where
 abbrev pub start : {S : Type 0} → Outcome S ℕ → List ℕ → State S
 start o b = record { session = o .session; store = o .bytes; events = offerTells (o .said) b }
 
+-- call after call, whatever a call is and whatever it goes from
+unfoldable pub runBy : {X C : Type 0} → (X → C → X) → X → List C → X
+runBy step σ [] = σ
+runBy step σ (c ∷ cs) = runBy step (step σ c) cs
+
 -- "Each call gets the session and store that the last one returned or left; nobody else writes them meanwhile."
 module _ {S : Type 0} (B : Buffer S) where
   unfoldable pub step : State S → Call → State S
@@ -91,9 +96,8 @@ module _ {S : Type 0} (B : Buffer S) where
       let o = passOf B (σ .session) in
       record { session = o .session; store = σ .store; events = σ .events ++ passTells (o .said) }
 
-  unfoldable pub run : State S → List Call → State S
-  run σ [] = σ
-  run σ (c ∷ cs) = run (step σ c) cs
+  abbrev pub run : State S → List Call → State S
+  run = runBy step
 
 -- ---- a history: the calls as they were made
 

@@ -288,14 +288,14 @@ module _ {σ : State} {s : Session} {es : List Event} (k : Stands σ s es) where
 -- ---- lists of calls
 
 pub no-more : {σ : State} {s : Session} {es : List Event} → Stands σ s es → saysServe s 1080 ≡ answered waiting → Comes true σ [] [] s es
-unfolding Supposed refusals Any.run
+unfolding Supposed refusals Any.runBy
 no-more k e = record { supposed = waits k e; numbers = refl; ends = k }
 
 -- one more call before a list
 before : {offered then-offered : Bool} {σ : State} {c : Call} {cs : List Call} {n : ℕ} {ns : List ℕ} {s : Session} {es : List Event}
     → refusal σ c ≡ n → (Supposed then-offered (step σ c) cs → Supposed offered σ (c ∷ cs)) → Comes then-offered (step σ c) cs ns s es
     → Comes offered σ (c ∷ cs) (n ∷ ns) s es
-unfolding refusals Any.run
+unfolding refusals Any.runBy
 before e f r = record { supposed = f (r .supposed); numbers = (λ i. e i ∷ r .numbers i); ends = r .ends }
 
 module _ {offered : Bool} {σ : State} {s : Session} {es : List Event} {cs : List Call} {ns : List ℕ} {t : Session} {fs : List Event} (k : Stands σ s es) where
