@@ -5,7 +5,7 @@ use mathlib.Core.Path.{_≡_}
 use mathlib.Core.List.{List, [], _∷_, map}
 use lib.ListN.{length}
 use Rattle.octets.specs.Refusal.{answered}
-use Rattle.reorder_rules.specs.Sizes.{storeSize}
+use Rattle.reorder_rules.specs.Sizes.{positions, storeSize}
 use Rattle.reorder_rules.specs.Turn.{Turn}
 use Rattle.reorder_session.specs.Calls.{drainOf}
 use Rattle.reorder_histories.specs.History.{Call, offer, serve, drain, pass}
@@ -13,7 +13,7 @@ use Rattle.reorder_histories.specs.Histories.{State, step, Waits, NotToo
 
 -- the budget: as many as can be held
 abbrev pub budget : ℕ
-budget = 32
+budget = positions
 
 -- a packet that is offered, and the output that the drain after it is lent, with whatever that holds
 pub record Arrival : Type 0 where

@@ -7,6 +7,7 @@ use mathlib.Core.List.{List, [], _∷_, _++_, List·Memᴰ}
 use mathlib.Core.Logic.{_⊎_}
 use lib.ListN.{length}
 use Rattle.octets.specs.Refusal.{refused, answered}
+use Rattle.packet_layout.specs.Layout.{packetSize}
 use Rattle.reorder_rules.specs.Outcome.{Outcome}
 use Rattle.reorder_rules.specs.Turn.{waiting}
 use Rattle.reorder_session.specs.declared.Session.{Session}
@@ -32,7 +33,7 @@ run = Any.run single
 -- "until the rack waits: until a serve with room for its answer would answer Waiting"
 pub record Waits (σ : State) : Type 0 where
   pub out : List ℕ
-  pub room : 1080 ≤ length out
+  pub room : packetSize ≤ length out
   pub answers : serveOf (σ .session) out (σ .store) .said ≡ answered waiting
 
 -- "After each offer, serves and drains follow until the rack waits … Before the first offer there may be some or none."

@@ -5,6 +5,7 @@ use mathlib.Core.List.{List, [], _∷_, _++_, map}
 use lib.ListN.{length, replicate, getD}
 use Rattle.octets.specs.Bytes.{part}
 use Rattle.octets.specs.Refusal.{Said, answered}
+use Rattle.packet_layout.specs.Layout.{packetSize}
 use Rattle.reorder_session.specs.declared.Session.{Session}
 use Rattle.reorder_rules.specs.Outcome.{Outcome}
 use Rattle.reorder_rules.specs.Turn.{Turn, packet, waiting}
@@ -32,7 +33,7 @@ answerAt ts i = getD ts i waiting
 
 -- the 1,080 bytes at 1,080 i
 abbrev pub piece : List ℕ → ℕ → List ℕ
-piece bytes i = part bytes (1080 * i) 1080
+piece bytes i = part bytes (packetSize * i) packetSize
 
 -- a drain of s with this budget, which isn't refused and answers ts, against as many serves with outputs of at least 1,080 bytes
 pub record IsServes (s : Session) (out store : List ℕ) (budget : ℕ) (ts : List Turn) (one : List ℕ) : Type 0 where
@@ -48,4 +49,4 @@ pub record IsServes (s : Session) (out store : List ℕ) (budget : ℕ) (ts : Li
 abbrev pub DrainsAreServes : Type 0
 DrainsAreServes =
     (s : Session) (out store : List ℕ) (budget : ℕ) (ts : List Turn) (one : List ℕ)
-    → drainOf s out store budget .said ≡ answered ts → 1080 ≤ length one → IsServes s out store budget ts one
+    → drainOf s out store budget .said ≡ answered ts → packetSize ≤ length one → IsServes s out store budget ts one

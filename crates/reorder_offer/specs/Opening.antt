@@ -4,12 +4,12 @@ use mathlib.Core.List.{List}
 use lib.Dec.{eqb}
 use lib.ListN.{length}
 use Rattle.octets.specs.Bytes.{put}
-use Rattle.octets.specs.Refusal.{refuse_unless_else_, within, Said, say}
+use Rattle.octets.specs.Refusal.{refuse_unless_else_, Said, say}
 use Rattle.packet_check.specs.Refusal.{readRefusal}
 use Rattle.packet.specs.declared.PacketFields.{PacketFields}
 use Rattle.packet.specs.Fields.{fieldsOf}
 use Rattle.window.specs.Window.{firstWindow, noWindow}
-use Rattle.reorder_rules.specs.Sizes.{storeSize}
+use Rattle.reorder_rules.specs.Sizes.{storeSize, isThreshold}
 use Rattle.reorder_rules.specs.Outcome.{Outcome, outcome, ComesTo}
 use Rattle.reorder_session.specs.declared.Session.{Session}
 use Rattle.reorder_session.specs.Session.{slotStart}
@@ -22,7 +22,7 @@ opened f h word =
 -- 20, 27: threshold not 1 to 31; store, of this size, not 34,560 bytes. Then the reader's 1 to 10
 unfoldable pub openRefusal : ℕ → List ℕ → ℕ → ℕ → ℕ
 openRefusal size b h word =
-    refuse 20 unless within 1 31 h else
+    refuse 20 unless isThreshold h else
     refuse 27 unless eqb size storeSize else
     readRefusal b word
 

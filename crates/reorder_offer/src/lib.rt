@@ -65,13 +65,13 @@ pub fn open_or(
 ) -> Offered
     ensures { λ r. ⌜ Opens session (now (store .entry)) (now (packet .entry)) threshold «sum_word» (offerSaid (r .answer)) (r .session) (now (store .exit)) ⌝ }
 {
-    if threshold < 1 {
+    if threshold < reorder_rules::LEAST_THRESHOLD {
         return Offered {
             answer: OfferAnswer::Refused(20),
             session,
         };
     }
-    if 31 < threshold {
+    if reorder_rules::MOST_THRESHOLD < threshold {
         return Offered {
             answer: OfferAnswer::Refused(20),
             session,

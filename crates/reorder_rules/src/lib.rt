@@ -7,6 +7,11 @@ pub const POSITIONS: u32 = 32;
 // Held bytes live in a lent store of so many bytes: a packet's for each position.
 pub const STORE_SIZE: usize = POSITIONS as usize * packet_layout::PACKET_SIZE;
 
+// The least and the greatest threshold.
+pub const LEAST_THRESHOLD: u32 = 1;
+
+pub const MOST_THRESHOLD: u32 = 31;
+
 // The last position that is served, signed as positions are worked out.
 pub const LAST_POSITION: i64 = 999_999;
 

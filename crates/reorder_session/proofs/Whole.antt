@@ -8,11 +8,12 @@ use borrow.Author.Tests.{ltb-false, le-ltb, le-leb, not-false}
 use lib.Dec.{ltb}
 use Rattle.octets.proofs.Ladder.{within-true}
 use Rattle.packet_layout.specs.SumWord.{isSumWord}
+use Rattle.reorder_rules.specs.Sizes.{isThreshold}
 use Rattle.window.specs.Window.{heldAt, someHeld}
 use Rattle.window.proofs.Tests.{or-neither}
 use Rattle.window.proofs.Held.{held-none, none-held}
 use Rattle.reorder_session.specs.declared.Session.{Session}
-use Rattle.reorder_session.specs.Session.{outside, pastEnd, broken}
+use Rattle.reorder_session.specs.Session.{pastEnd, broken}
 
 pub record Whole (s : Session) : Type 0 where
   pub count : s .anchor .count ≤ 16383
@@ -27,15 +28,15 @@ pub whole : (s : Session) → broken s ≡ false → Whole s
 unfolding broken pastEnd
 whole s e =
     let c1 = or-neither (ltb 16383 (s .anchor .count)) _ e in
-    let c2 = or-neither (outside 1 31 (s .threshold)) _ (c1 .1) in
+    let c2 = or-neither (not (isThreshold (s .threshold))) _ (c1 .1) in
     let c3 = or-neither (not (isSumWord (s .«sum_word»))) _ (c2 .1) in
     let c4 = or-neither (ltb 1000000 (s .window .start)) _ (c3 .1) in
-    let h = or-neither (ltb (s .threshold) 1) _ (c2 .0) in
+    let h = within-true 1 31 (s .threshold) (not-false (isThreshold (s .threshold)) (c2 .0)) in
     let w = within-true 53 539 (s .«sum_word») (not-false (isSumWord (s .«sum_word»)) (c3 .0)) in
     record {
       count = ltb-false _ _ (c1 .0);
-      threshold-least = ltb-false _ _ (h .0);
-      threshold-most = ltb-false _ _ (h .1);
+      threshold-least = h .0;
+      threshold-most = h .1;
       word-least = w .0;
       word-most = w .1;
       next-most = ltb-false _ _ (c4 .0);
@@ -52,8 +53,8 @@ unbroken s v =
     let f : someHeld (s .window) 1000000 ≡ false = none-held (s .window) 1000000 (λ p k l. omega (arith, v .held-most p k)) in
     rw (
       le-ltb 16383 (s .anchor .count) (v .count),
-      le-ltb (s .threshold) 1 (v .threshold-least),
-      le-ltb 31 (s .threshold) (v .threshold-most),
+      le-leb 1 (s .threshold) (v .threshold-least),
+      le-leb (s .threshold) 31 (v .threshold-most),
       le-leb 53 (s .«sum_word») (v .word-least),
       le-leb (s .«sum_word») 539 (v .word-most),
       le-ltb 1000000 (s .window .start) (v .next-most),

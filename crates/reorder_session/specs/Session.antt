@@ -9,13 +9,9 @@ use Rattle.window.specs.Window.{heldAt, someHeld, holding, freed, skipped}
 use Rattle.packet_layout.specs.Layout.{packetSize}
 use Rattle.packet_layout.specs.Header.{mostCount}
 use Rattle.packet_layout.specs.SumWord.{isSumWord}
-use Rattle.reorder_rules.specs.Sizes.{positions, endPosition}
+use Rattle.reorder_rules.specs.Sizes.{positions, endPosition, isThreshold}
 use Rattle.reorder_rules.specs.Buffer.{Buffer}
 use Rattle.reorder_session.specs.declared.Session.{Session}
-
--- x lies below lo or above hi
-abbrev pub outside : ℕ → ℕ → ℕ → Bool
-outside lo hi x = ltb x lo || ltb hi x
 
 -- next is over 1,000,000, or a held position over 999,999
 unfoldable pub pastEnd : Window → Bool
@@ -23,7 +19,7 @@ pastEnd w = ltb endPosition (w .start) || someHeld w endPosition
 
 -- 30: session broken: c0 over 16,383, H or place out of range, next over 1,000,000, or a held position over 999,999
 unfoldable pub broken : Session → Bool
-broken s = ltb mostCount (s .anchor .count) || (outside 1 31 (s .threshold) || (not (isSumWord (s .«sum_word»)) || pastEnd (s .window)))
+broken s = ltb mostCount (s .anchor .count) || (not (isThreshold (s .threshold)) || (not (isSumWord (s .«sum_word»)) || pastEnd (s .window)))
 
 abbrev pub withWindow : Session → Window → Session
 withWindow s w = record { anchor = s .anchor; «sum_word» = s .«sum_word»; threshold = s .threshold; window = w }

@@ -39,7 +39,8 @@ pub fn is_broken(session: Session) -> bool
     let threshold = session.threshold;
     let sum_word = session.sum_word;
     if (MOST_COUNT < count)
-        | (((threshold < 1) | (31 < threshold))
+        | (((threshold < reorder_rules::LEAST_THRESHOLD)
+            | (reorder_rules::MOST_THRESHOLD < threshold))
             | ((sum_word < FIRST_SUM_WORD) | (LAST_SUM_WORD < sum_word)))
     {
         return true;

@@ -4,6 +4,7 @@ use mathlib.Core.Path.{_≡_}
 use mathlib.Core.List.{List, [], _∷_, _++_}
 use Rattle.octets.specs.Refusal.{Said}
 use Rattle.reorder_rules.specs.Outcome.{Outcome}
+use Rattle.reorder_rules.specs.Sizes.{positions}
 use Rattle.reorder_rules.specs.Turn.{Turn}
 use Rattle.reorder_session.specs.declared.Session.{Session}
 use Rattle.reorder_session.specs.Session.{single}
@@ -21,7 +22,7 @@ abbrev pub secondOf : List ℕ → List ℕ → List ℕ → ℕ → ℕ → Out
 secondOf store first b threshold word = let o = firstOf store first threshold word in offerOf (o .session) (o .bytes) b
 
 abbrev pub thirdOf : List ℕ → List ℕ → List ℕ → List ℕ → ℕ → ℕ → Outcome Session (List Turn)
-thirdOf store out first b threshold word = let o = secondOf store first b threshold word in drainOf (o .session) out (o .bytes) 32
+thirdOf store out first b threshold word = let o = secondOf store first b threshold word in drainOf (o .session) out (o .bytes) positions
 
 -- the last says x; t, c and o are the session, the store and the output then
 pub record Short (store out first b : List ℕ) (threshold word : ℕ) (x : Said (List Turn)) (t : Session) (c o : List ℕ) : Type 0 where
@@ -32,7 +33,7 @@ pub record Short (store out first b : List ℕ) (threshold word : ℕ) (x : Said
   -- the three calls kept their promises, and the events are those that they tell
   pub opening : State
   pub opened : OpenMade noSession store first threshold word opening
-  pub called : MadeBy (CallMade single) opening (offer b ∷ drain out 32 ∷ [])
+  pub called : MadeBy (CallMade single) opening (offer b ∷ drain out positions ∷ [])
       (record {
         session = t;
         store = c;

@@ -8,8 +8,9 @@ use mathlib.Core.Bool.{Bool, true, false, not, _&&_, _||_}
 use lib.Dec.{ltb, leb}
 use Rattle.octets.specs.Refusal.{within}
 use Rattle.packet_layout.specs.SumWord.{isSumWord}
+use Rattle.reorder_rules.specs.Sizes.{isThreshold}
 use Rattle.reorder_session.specs.declared.Session.{Session}
-use Rattle.reorder_session.specs.Session.{outside, pastEnd, broken}
+use Rattle.reorder_session.specs.Session.{pastEnd, broken}
 use borrow.Author.Needs.{needs}
 use Rattle.reorder_session.proofs.is_broken.Statement.{statement}
 use Rattle.reorder_session.proofs.is_broken.Tie as tie
@@ -28,7 +29,10 @@ ltb-leb x y = go (decLe y x)
     go (yes l) = le-ltb x y l ∙ sym (ap not (le-leb y x l))
     go (no n) = lt-ltb x y (omega arith) ∙ sym (ap not (lt-leb y x (omega arith)))
 
--- outside the bounds is not within them
+-- outside the bounds is not within them, and it is how the code tests it
+abbrev outside : ℕ → ℕ → ℕ → Bool
+outside lo hi x = ltb x lo || ltb hi x
+
 outside-is : (lo hi x : ℕ) → outside lo hi x ≡ not (within lo hi x)
 outside-is lo hi x = rw (ltb-leb x lo, ltb-leb hi x) (either (leb lo x) (leb x hi))
   where
@@ -40,8 +44,8 @@ by-fields : (s : Session)
     → broken s ≡ ((ltb 16383 (s .anchor .count) || (outside 1 31 (s .threshold) || outside 53 539 (s .«sum_word»))) || pastEnd (s .window))
 unfolding broken
 by-fields s =
-    joined (ltb 16383 (s .anchor .count)) (outside 1 31 (s .threshold)) (not (isSumWord (s .«sum_word»))) (pastEnd (s .window))
-    ∙ ap (λ (b : Bool). (ltb 16383 (s .anchor .count) || (outside 1 31 (s .threshold) || b)) || pastEnd (s .window)) (sym (outside-is 53 539 (s .«sum_word»)))
+    joined (ltb 16383 (s .anchor .count)) (not (isThreshold (s .threshold))) (not (isSumWord (s .«sum_word»))) (pastEnd (s .window))
+    ∙ (λ i. (ltb 16383 (s .anchor .count) || (sym (outside-is 1 31 (s .threshold)) i || sym (outside-is 53 539 (s .«sum_word»)) i)) || pastEnd (s .window))
 
 returns : tie.Need-returns
 returns c =
