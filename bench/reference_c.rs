@@ -119,7 +119,7 @@ pub unsafe extern "C" fn mola_check_record(record: *const u8, len: usize) -> u8 
     number(reference::check_record(from_raw_parts(record, len)))
 }
 
-// The reference's session has the same six numbers, but not in the same places: each call turns it round.
+// The reference's session has the same six numbers in a layout of its own: each call turns it round.
 
 fn inward(session: &mola::Session) -> Session {
     Session {

@@ -1,9 +1,9 @@
 /* Verified telemetry for the Mars Orbiter Laser Altimeter: the functions of libmola.a.
  *
  * Every function takes any bytes and any numbers, ends, and either does its work or gives a refusal number, which is never 0. A refusal
- * writes nothing: what is lent stays as it was, and so do the six numbers of a lent session. (The padding between them may change in any call, so
- * that sessions are compared field by field.) What each sentence below says of a function's answer, and of what the function leaves, is proved
- * of it, in Rattle, before the archive is built; that the declarations here fit the archive is not proved but tested.
+ * writes nothing: every byte of what is lent stays as it was, a lent session's too. What each sentence below says of a function's answer, and of
+ * what the function leaves, is proved of it, in Rattle, before the archive is built; that the declarations here fit the archive is not proved but
+ * tested.
  *
  * A pointer with a length is lent: that many bytes to read, or to write where the pointer is not const. A length of 0 takes any pointer, a null
  * pointer too. A pointer without a length (session, temperatures, readings, bins, descriptions) points to one whole object of its type, and is never

@@ -41,7 +41,7 @@ pub record ChunksPrinted (r : Chunks) (buf out : List ℕ) : Type 0 where
   pub ended : isContinue (r .last .next) ≡ false
   pub most : r .last .records ≤ chunkPieces * chunksMost
 
--- What can be said of a check without its buffers. It is complete where the last chunk ended the input and all of the last text was written. The
+-- What can be said of a check without its buffers. Its last chunk, where it isn't full, left room. It is complete where the last chunk ended the input and all of the last text was written. The
 -- pieces are those of `full` chunks of 213 and of one of at most as many; those of a complete check are those of all the bytes that were read.
 pub record FileChecked (r : Checked) : Type 0 where
   pub within : ChunkWithin chunkSize (r .chunk)

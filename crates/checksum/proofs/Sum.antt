@@ -72,18 +72,18 @@ zero-at (a ∷ b ∷ s) (suc zero) e = absurd (omega arith)
 zero-at (a ∷ b ∷ s) (suc (suc k)) e = omega (arith, zero-at s k (omega arith))
 
 -- all words less the one at the place
-pub place-taken : (s : List ℕ) (w all v r : ℕ) → all ≡ wordSum s % 65536 → v ≡ wordAt s w → r < 65536 → (r + v) % 65536 ≡ all
-    → r ≡ packetSum s w
+pub place-taken : (s : List ℕ) (word all v r : ℕ) → all ≡ wordSum s % 65536 → v ≡ wordAt s word → r < 65536 → (r + v) % 65536 ≡ all
+    → r ≡ packetSum s word
 unfolding packetSum zeroed
-place-taken s w all v r ea ev l er =
-    let z = rw (← add-one (w * 2)) at (zero-at s (w * 2) (omega arith)) in
+place-taken s word all v r ea ev l er =
+    let z = rw (← add-one (word * 2)) at (zero-at s (word * 2) (omega arith)) in
     omega arith
 
 -- a place past the end
-pub place-past : (s : List ℕ) (w : ℕ) → length s ≤ w → wordSum s % 65536 ≡ packetSum s w
+pub place-past : (s : List ℕ) (word : ℕ) → length s ≤ word → wordSum s % 65536 ≡ packetSum s word
 unfolding packetSum zeroed
-place-past s w h = ap (λ (l : List ℕ). wordSum l % 65536) (sym (put-past (0 ∷ 0 ∷ []) s (w * 2) (omega arith)))
+place-past s word h = ap (λ (l : List ℕ). wordSum l % 65536) (sym (put-past (0 ∷ 0 ∷ []) s (word * 2) (omega arith)))
 
-pub sum-lt : (s : List ℕ) (w : ℕ) → packetSum s w < 65536
+pub sum-lt : (s : List ℕ) (word : ℕ) → packetSum s word < 65536
 unfolding packetSum
-sum-lt s w = omega arith
+sum-lt s word = omega arith

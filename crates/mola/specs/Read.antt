@@ -1,7 +1,7 @@
 -- What is due of the reader of a packet, as one struct.
 use Rattle.octets.specs.Refusal.{Said, refused, answered}
 use Rattle.packet.specs.declared.PacketFields.{PacketFields}
-use Rattle.mola.specs.declared.PacketRead.{PacketRead}
+use Rattle.mola.specs.declared.FieldsAnswer.{FieldsAnswer}
 
 abbrev pub noFields : PacketFields
 noFields =
@@ -24,6 +24,6 @@ noFields =
     }
 
 -- a refusal is its number, with fields of all zeros; an accepted packet is 0 and its fields
-abbrev pub asRead : Said PacketFields → PacketRead
+abbrev pub asRead : Said PacketFields → FieldsAnswer
 asRead (refused n) = record { refusal = n; fields = noFields }
 asRead (answered f) = record { refusal = 0; fields = f }

@@ -22,7 +22,7 @@ ghost use Rattle.mola.specs.Read.{noFields, asRead};
 
 // A packet's refusal number, or 0, and its fields, which are all zeros on a refusal.
 #[repr(C)]
-pub struct PacketRead {
+pub struct FieldsAnswer {
     pub refusal: u32,
     pub fields: PacketFields,
 }
@@ -60,16 +60,16 @@ fn no_fields() -> PacketFields
 
 // The refusal number of a packet whose sum stands at word sum_word, or 0, and its fields.
 #[no_mangle]
-pub extern "C" fn mola_read_packet(packet: &[u8], sum_word: usize) -> PacketRead
+pub extern "C" fn mola_read_packet(packet: &[u8], sum_word: usize) -> FieldsAnswer
     ensures { λ r. ⌜ r ≡ asRead (readDue (now (packet .entry)) «sum_word») ⌝ }
 {
     let answer = packet::read_answer(packet, sum_word);
     match answer {
-        PacketAnswer::Refused(n) => PacketRead {
+        PacketAnswer::Refused(n) => FieldsAnswer {
             refusal: n as u32,
             fields: no_fields(),
         },
-        PacketAnswer::Accepted(fields) => PacketRead { refusal: 0, fields },
+        PacketAnswer::Accepted(fields) => FieldsAnswer { refusal: 0, fields },
     }
 }
 

@@ -6,11 +6,11 @@ use mir.Syntax.{tyInt, w8, w16, w32}
 use mir.Val.{vint, vstruct, vcons, vnil}
 use prog.Memory.{size, align, fieldOf}
 use Rattle.packet.specs.declared.PacketFields.{PacketFields}
-use Rattle.mola.specs.declared.PacketRead.{PacketRead}
+use Rattle.mola.specs.declared.FieldsAnswer.{FieldsAnswer}
 use Rattle.reorder_c.specs.declared.Answer.{Answer}
 use Rattle.reorder_c.specs.declared.Count.{Count}
 use Rattle.packet.proofs.PacketFields.Laws as In-fields
-use Rattle.mola.proofs.PacketRead.Laws as In-read
+use Rattle.mola.proofs.FieldsAnswer.Laws as In-read
 use Rattle.reorder_c.proofs.Answer.Laws as In-answer
 use Rattle.reorder_c.proofs.Count.Laws as In-count
 
@@ -54,7 +54,7 @@ pub record StructLayouts : Type 0 where
   -- a packet that is read
   pub read-size : size In-read.mir ≡ 32
   pub read-aligned : align In-read.mir ≡ 4
-  pub read-order : (r : PacketRead) → In-read.lowered r ≡ vstruct (vcons (vint w32 (r .refusal)) (vcons (In-fields.lowered (r .fields)) vnil))
+  pub read-order : (r : FieldsAnswer) → In-read.lowered r ≡ vstruct (vcons (vint w32 (r .refusal)) (vcons (In-fields.lowered (r .fields)) vnil))
   pub read-refusal : fieldOf In-read.mir 0 ≡ some (tyInt w32, 0)
   pub read-fields : fieldOf In-read.mir 1 ≡ some (In-fields.mir, 4)
   -- an answer

@@ -13,18 +13,18 @@ use Rattle.program_io.specs.declared.Chunk.{Chunk}
 use Rattle.program_io.specs.declared.Chunk.the-variants as Ch
 use Rattle.program_io.specs.declared.Step.{Step}
 use Rattle.program_io.specs.declared.Step.the-variants as St
-use Rattle.program_io.specs.Chunk.{readDue, ReadWithin, bytesIn, stepDue, ChunkWithin, chunkBytes}
+use Rattle.program_io.specs.Chunk.{readMeant, ReadWithin, bytesIn, stepDue, ChunkWithin, chunkBytes}
 
 -- the three answers
-pub read-failed : (got : ℤ) (room : ℕ) → ltZ got (pos 0) ≡ true → Rd.Failed ≡ readDue got room
+pub read-failed : (got : ℤ) (room : ℕ) → ltZ got (pos 0) ≡ true → Rd.Failed ≡ readMeant got room
 read-failed (pos k) room e = absurd (omega (arith, ltb-true k 0 e))
 read-failed (negsuc k) room e = refl
 
-pub read-end : (got : ℤ) (room n : ℕ) → ltZ got (pos 0) ≡ false → n ≡ clamped got room → n ≡ 0 → Rd.End ≡ readDue got room
+pub read-end : (got : ℤ) (room n : ℕ) → ltZ got (pos 0) ≡ false → n ≡ clamped got room → n ≡ 0 → Rd.End ≡ readMeant got room
 read-end (pos k) room n e q z = rw (eq-eqb (min k room) 0 (sym q ∙ z))
 read-end (negsuc k) room n e q z = absurd (true≢false e)
 
-pub read-bytes : (got : ℤ) (room n : ℕ) → ltZ got (pos 0) ≡ false → n ≡ clamped got room → (n ≡ 0 → ⊥) → Rd.Bytes n ≡ readDue got room
+pub read-bytes : (got : ℤ) (room n : ℕ) → ltZ got (pos 0) ≡ false → n ≡ clamped got room → (n ≡ 0 → ⊥) → Rd.Bytes n ≡ readMeant got room
 read-bytes (pos k) room n e q z = rw (← q, ne-eqb n 0 z)
 read-bytes (negsuc k) room n e q z = absurd (true≢false e)
 

@@ -11,9 +11,9 @@ use Rattle.program_io.specs.declared.Step.{Step}
 use Rattle.program_io.specs.declared.Step.the-variants as St
 
 -- A read's answer, with `room` bytes to put to: below 0 it failed, 0 is the end of the input, any other is a number of bytes, never over the room.
-abbrev pub readDue : ℤ → ℕ → Read
-readDue (negsuc k) room = Rd.Failed
-readDue (pos k) room = cond (eqb (min k room) 0) Rd.End (Rd.Bytes (min k room))
+abbrev pub readMeant : ℤ → ℕ → Read
+readMeant (negsuc k) room = Rd.Failed
+readMeant (pos k) room = cond (eqb (min k room) 0) Rd.End (Rd.Bytes (min k room))
 
 -- it put at least one byte, and no more than there was room for
 abbrev pub ReadWithin : ℕ → Read → Type 0

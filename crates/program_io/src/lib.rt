@@ -1,4 +1,4 @@
-// Reading and writing, for every program. The calls stand in `read_once` and `write_once` alone, and what is decided by their answers in functions
+// Reading and writing, for the programs that users run. The calls stand in `read_once` and `write_once` alone, and what is decided by their answers in functions
 // with an equation. A failure is told on standard error by the name of the call and errno's text, as `read: Is a directory`.
 //
 // No contract can say what a call of the system moves. So it stays unproved that the bytes in a buffer come from the descriptor, that a text goes to
@@ -9,7 +9,7 @@ ghost use mathlib.Core.Path.{_≡_};
 ghost use mathlib.Core.Bool.{true};
 ghost use Prim.Native.Nat.{_+_, _<_, _≤_, _^_};
 ghost use lib.ListN.{length};
-ghost use Rattle.program_io.specs.Chunk.{readDue, ReadWithin, bytesIn, stepDue, ChunkWithin, chunkBytes};
+ghost use Rattle.program_io.specs.Chunk.{readMeant, ReadWithin, bytesIn, stepDue, ChunkWithin, chunkBytes};
 ghost use Rattle.program_io.specs.Next.{isWhole, nextDue, isContinue, isClose};
 
 // The most chunks that are read: a loop has to end, and nothing says that the input does.
@@ -52,7 +52,7 @@ pub enum Next {
 
 // What a read's answer means.
 fn meaning(got: isize, rest: &[u8]) -> Read
-    ensures { λ r. ⌜ r ≡ readDue got (length (now (rest .entry))) ⌝ }
+    ensures { λ r. ⌜ r ≡ readMeant got (length (now (rest .entry))) ⌝ }
     ensures { λ r. ⌜ ReadWithin (length (now (rest .entry))) r ⌝ }
 {
     if got < 0 {

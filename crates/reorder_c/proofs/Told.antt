@@ -13,7 +13,7 @@ use Rattle.reorder_serve.specs.Report.{counted}
 use Rattle.reorder_descriptions.specs.Listed.{listed}
 use Rattle.reorder_descriptions.proofs.Listed.{listed-append}
 use Rattle.reorder_c.specs.declared.Count.{Count}
-use Rattle.reorder_c.specs.Answers.{asAnswer, heldAnswer, servedAnswer, passedAnswer, drainedCount, tabled, positionSaid, turnBy, turnSaid, turnsIn, turnsSaid, Tells}
+use Rattle.reorder_c.specs.Answers.{asAnswer, heldAnswer, servedAnswer, passedAnswer, drainedCount, tabled, positionSaid, turnOf, turnSaid, turnsIn, turnsSaid, Tells}
 
 say-refused : {A : Type 0} (n : ℕ) (a : A) → (n ≡ 0 → ⊥) → say n a ≡ refused n
 unfolding say
@@ -27,7 +27,7 @@ unfolding say
 position-said turn at (refused n) h = say-refused n 0 (h n refl)
 position-said turn at (answered p) h = ap answered (at p)
 
-turn-by : (t : Turn) → turnBy (described t .kind) (described t .position) ≡ t
+turn-by : (t : Turn) → turnOf (described t .kind) (described t .position) ≡ t
 turn-by (packet p) = refl
 turn-by (missing p) = refl
 turn-by waiting = refl

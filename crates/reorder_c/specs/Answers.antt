@@ -44,18 +44,18 @@ tabled (answered ts) old = listed (describedAll ts)
 abbrev pub positionSaid : Answer → Said ℕ
 positionSaid r = say (r .refusal) (r .position)
 
-abbrev pub turnBy : ℕ → ℕ → Turn
-turnBy kind position = describedBy (record { kind = kind; position = position })
+abbrev pub turnOf : ℕ → ℕ → Turn
+turnOf kind position = describedBy (record { kind = kind; position = position })
 
 abbrev pub turnSaid : Answer → Said Turn
-turnSaid r = say (r .refusal) (turnBy (r .kind) (r .position))
+turnSaid r = say (r .refusal) (turnOf (r .kind) (r .position))
 
 -- of a drain: as many answers as it counts, each by two of the lent numbers
 abbrev pub turnsIn : ℕ → List ℕ → List Turn
 turnsIn zero e = []
 turnsIn (suc n) [] = []
 turnsIn (suc n) (kind ∷ []) = []
-turnsIn (suc n) (kind ∷ position ∷ e) = turnBy kind position ∷ turnsIn n e
+turnsIn (suc n) (kind ∷ position ∷ e) = turnOf kind position ∷ turnsIn n e
 
 abbrev pub turnsSaid : Count → List ℕ → Said (List Turn)
 turnsSaid r e = say (r .refusal) (turnsIn (r .count) e)

@@ -194,7 +194,7 @@ fn drain_turns(
     }
 }
 
-// The same, but that a drain that has nothing to serve stores its zeros at once, with no array of descriptions between.
+// The same, but that a drain that has nothing to serve stores its zeros at once, without the run.
 pub fn drain(
     session: Session,
     out: &mut [u8],

@@ -18,7 +18,7 @@ use Rattle.reorder_rules.specs.Outcome.{Outcome, outcome}
 use Rattle.reorder_rules.specs.Turn.{Turn, packet, missing, waiting}
 use Rattle.reorder_session.specs.Calls.{turn, turned, shown, turns, turnedAll, shownAll, serveRefusal, drainRefusal, serveOf, drainOf, passRefusal, passOf}
 use Rattle.reorder_rules.proofs.Ready.{ServeReady, serve-ready, DrainReady, drain-ready}
-use Rattle.reorder_laws.specs.Serves.{answerAt, piece}
+use Rattle.reorder_laws.specs.Serves.{answerAt, bytesAt}
 use Rattle.reorder_laws.proofs.Pieces.{piece-same, slot-length, shown-packet}
 use Rattle.reorder_rules.proofs.Turns.{Split, turns-split, turns-most}
 use Rattle.reorder_histories.specs.History as Any
@@ -110,19 +110,19 @@ turnsTold bytes [] = []
 turnsTold bytes (t ∷ ts) = turnTold bytes t ++ turnsTold bytes ts
 
 -- where the output has each packet's bytes at its number
-pub told-all : (bytes : ℕ → List ℕ) (out : List ℕ) (ts : List Turn) (k : ℕ) → ((i p : ℕ) → answerAt ts i ≡ packet p → piece out (k + i) ≡ bytes p)
+pub told-all : (bytes : ℕ → List ℕ) (out : List ℕ) (ts : List Turn) (k : ℕ) → ((i p : ℕ) → answerAt ts i ≡ packet p → bytesAt out (k + i) ≡ bytes p)
     → turnsTell k ts out ≡ turnsTold bytes ts
 unfolding turnsTell
 told-all bytes out [] k h = refl
 told-all bytes out (t ∷ ts) k h = go t (λ p e. first p e) (told-all bytes out ts (suc k) later)
   where
-    first : (p : ℕ) → t ≡ packet p → piece out k ≡ bytes p
-    first p e = let z : k ≡ k + 0 = omega arith in ap (piece out) z ∙ h 0 p e
+    first : (p : ℕ) → t ≡ packet p → bytesAt out k ≡ bytes p
+    first p e = let z : k ≡ k + 0 = omega arith in ap (bytesAt out) z ∙ h 0 p e
 
-    later : (i p : ℕ) → answerAt ts i ≡ packet p → piece out (suc k + i) ≡ bytes p
-    later i p e = let z : suc k + i ≡ k + suc i = omega arith in ap (piece out) z ∙ h (suc i) p e
+    later : (i p : ℕ) → answerAt ts i ≡ packet p → bytesAt out (suc k + i) ≡ bytes p
+    later i p e = let z : suc k + i ≡ k + suc i = omega arith in ap (bytesAt out) z ∙ h (suc i) p e
 
-    go : (u : Turn) → ((p : ℕ) → u ≡ packet p → piece out k ≡ bytes p) → turnsTell (suc k) ts out ≡ turnsTold bytes ts
+    go : (u : Turn) → ((p : ℕ) → u ≡ packet p → bytesAt out k ≡ bytes p) → turnsTell (suc k) ts out ≡ turnsTold bytes ts
         → turnsTell k (u ∷ ts) out ≡ turnTold bytes u ++ turnsTold bytes ts
     go (packet p) f r = λ i. gave p (f p refl i) ∷ r i
     go (missing p) f r = ap (λ (l : List Event). called-missing p ∷ l) r

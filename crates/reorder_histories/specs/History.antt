@@ -10,7 +10,7 @@ use Rattle.reorder_rules.specs.Turn.{Turn, packet, missing, waiting}
 use Rattle.reorder_rules.specs.Serve.{serveOf, drainOf}
 use Rattle.reorder_rules.specs.Pass.{passOf}
 use Rattle.reorder_rules.specs.Promises.{Offers, Serves, Drains, Passes}
-use Rattle.reorder_laws.specs.Serves.{piece}
+use Rattle.reorder_laws.specs.Serves.{bytesAt}
 
 -- ---- the calls
 
@@ -47,7 +47,7 @@ offerTells (answered p) b = took p b ∷ []
 -- The answers from the one numbered i on; its bytes stand at 1,080 i of the output.
 unfoldable pub turnsTell : ℕ → List Turn → List ℕ → List Event
 turnsTell i [] out = []
-turnsTell i (packet p ∷ ts) out = gave p (piece out i) ∷ turnsTell (suc i) ts out
+turnsTell i (packet p ∷ ts) out = gave p (bytesAt out i) ∷ turnsTell (suc i) ts out
 turnsTell i (missing p ∷ ts) out = called-missing p ∷ turnsTell (suc i) ts out
 turnsTell i (waiting ∷ ts) out = turnsTell (suc i) ts out
 

@@ -28,7 +28,7 @@ use Rattle.reorder_rules.proofs.Turns.{Split, turns-split}
 use Rattle.reorder_turn.proofs.Turns.{Shows, shows-packet, shows-missing, shows-waiting, shows}
 use Rattle.reorder_rules.proofs.Ready.{serve-ready, pass-ready}
 use Rattle.reorder_offer.proofs.Opening.{accepted-opening}
-use Rattle.reorder_laws.specs.Serves.{answerAt, piece}
+use Rattle.reorder_laws.specs.Serves.{answerAt, bytesAt}
 use Rattle.reorder_laws.specs.Held.{Holds, GivenBy, DrainedBy, BytesComeOut}
 use Rattle.reorder_laws.proofs.Pieces.{piece-same, piece-other, slot-length}
 use Rattle.reorder_laws.proofs.Drains.{drained, drained-packet}
@@ -139,7 +139,7 @@ serve-gives s out store p b h = go (serveOf s out store .said) refl
             inr (record {
               said = e ∙ ap answered (a .1 ∙ i);
               bytes =
-                  ap (λ (c : List ℕ). piece c 0) (l .bytes ∙ ap (shown s 0 store out) (a .1 ∙ i))
+                  ap (λ (c : List ℕ). bytesAt c 0) (l .bytes ∙ ap (shown s 0 store out) (a .1 ∙ i))
                   ∙ piece-same out (slot store p) 0 (slot-length store p (r .store)) (omega (arith, r .out)) ∙ h .bytes;
             }))
             k

@@ -20,7 +20,7 @@ use Rattle.reorder_session.specs.Calls.{turn, turned, shown, turns, turnedAll, 
 use Rattle.reorder_rules.proofs.Turns.{turns-stop, Split, turns-split, turns-most}
 use Rattle.reorder_rules.proofs.Ready.{DrainReady, drain-ready}
 use Rattle.reorder_session.proofs.Whole.{Whole, whole, unbroken}
-use Rattle.reorder_laws.specs.Serves.{serves, sessionAfter, saidBy, bytesBy, answerAt, piece, DrainsAreServes}
+use Rattle.reorder_laws.specs.Serves.{serves, sessionAfter, saidBy, bytesBy, answerAt, bytesAt, DrainsAreServes}
 use Rattle.reorder_laws.proofs.Kept.{whole-turned}
 use Rattle.reorder_laws.proofs.Pieces.{piece-same, slot-length, shown-packet, shown-other}
 
@@ -93,7 +93,7 @@ module _ (store : List ℕ) (size : length store ≡ 34560) (one : List ℕ) (ro
           ∙ r (turned s (turn s)) (whole-turned s v) ∙ sym (ap (turnedAll s) e)
 
   bytes-all : (b : ℕ) (s : Session) → Whole s → (i p : ℕ) → answerAt (turns b s) i ≡ packet p
-      → piece (getD (map bytesBy (serves b s one store)) i []) 0 ≡ slot store p
+      → bytesAt (getD (map bytesBy (serves b s one store)) i []) 0 ≡ slot store p
   unfolding serves Turn-rules.turns
   bytes-all zero s v i p e = let z : _≡_ {A = ℕ} 0 1 = cc in absurd (omega arith)
   bytes-all (suc b) s v i p e = go (turns-split single b s) i e (λ t w. bytes-all b t w)
@@ -102,20 +102,20 @@ module _ (store : List ℕ) (size : length store ≡ 34560) (one : List ℕ) (ro
       f = fine s v
 
       at : ℕ → Type 0
-      at j = piece (getD (map bytesBy (serves (suc b) s one store)) j []) 0 ≡ slot store p
+      at j = bytesAt (getD (map bytesBy (serves (suc b) s one store)) j []) 0 ≡ slot store p
 
       go : Split single b s → (j : ℕ) → answerAt (turns (suc b) s) j ≡ packet p
-          → ((t : Session) → Whole t → (j p : ℕ) → answerAt (turns b t) j ≡ packet p → piece (getD (map bytesBy (serves b t one store)) j []) 0 ≡ slot store p) → at j
+          → ((t : Session) → Whole t → (j p : ℕ) → answerAt (turns b t) j ≡ packet p → bytesAt (getD (map bytesBy (serves b t one store)) j []) 0 ≡ slot store p) → at j
       go (inl w) j h r =
           let q : waiting ≡ packet p = sym (ap (λ (ts : List Turn). answerAt ts j) (w .1)) ∙ h in
           let z : _≡_ {A = ℕ} 0 1 = cc in
           absurd (omega arith)
       go (inr u) zero h r =
           let q : turn s ≡ packet p = sym (ap (λ (ts : List Turn). answerAt ts 0) u) ∙ h in
-          ap (λ (l : List ℕ). piece l 0) (f .bytes ∙ ap (shown s 0 store one) q) ∙ piece-same one (slot store p) 0 (slot-length store p size) (omega arith)
+          ap (λ (l : List ℕ). bytesAt l 0) (f .bytes ∙ ap (shown s 0 store one) q) ∙ piece-same one (slot store p) 0 (slot-length store p size) (omega arith)
       go (inr u) (suc j) h r =
           let q : answerAt (turns b (turned s (turn s))) j ≡ packet p = sym (ap (λ (ts : List Turn). answerAt ts (suc j)) u) ∙ h in
-          ap (λ (t : Session). piece (getD (map bytesBy (serves b t one store)) j []) 0) (f .session) ∙ r (turned s (turn s)) (whole-turned s v) j p q
+          ap (λ (t : Session). bytesAt (getD (map bytesBy (serves b t one store)) j []) 0) (f .session) ∙ r (turned s (turn s)) (whole-turned s v) j p q
 
 -- ---- the drain
 
@@ -139,18 +139,18 @@ drained s out store budget ts e =
 
 -- the bytes of a drain's answer numbered i
 pub drained-packet : (s : Session) (out store : List ℕ) (budget : ℕ) (ts : List Turn) → Drained s out store budget ts → (i p : ℕ) → answerAt ts i ≡ packet p
-    → piece (drainOf s out store budget .bytes) i ≡ slot store p
+    → bytesAt (drainOf s out store budget .bytes) i ≡ slot store p
 drained-packet s out store budget ts d i p e =
     let q : i ≡ 0 + i = omega arith in
-    ap (λ (l : List ℕ). piece l i) (d .bytes) ∙ ap (piece (shownAll s 0 store out ts)) q
+    ap (λ (l : List ℕ). bytesAt l i) (d .bytes) ∙ ap (bytesAt (shownAll s 0 store out ts)) q
     ∙ shown-packet store (d .ready .store) s ts 0 i p out (omega (arith, d .ready .out, d .few)) e
 
 drained-other : (s : Session) (out store : List ℕ) (budget : ℕ) (ts : List Turn) → Drained s out store budget ts → (i : ℕ)
-    → ((p : ℕ) → answerAt ts i ≡ packet p → ⊥) → piece (drainOf s out store budget .bytes) i ≡ piece out i
+    → ((p : ℕ) → answerAt ts i ≡ packet p → ⊥) → bytesAt (drainOf s out store budget .bytes) i ≡ bytesAt out i
 drained-other s out store budget ts d i n =
     let q : i ≡ 0 + i = omega arith in
-    ap (λ (l : List ℕ). piece l i) (d .bytes) ∙ ap (piece (shownAll s 0 store out ts)) q
-    ∙ shown-other store (d .ready .store) s ts 0 i out (omega (arith, d .ready .out, d .few)) n ∙ ap (piece out) (sym q)
+    ap (λ (l : List ℕ). bytesAt l i) (d .bytes) ∙ ap (bytesAt (shownAll s 0 store out ts)) q
+    ∙ shown-other store (d .ready .store) s ts 0 i out (omega (arith, d .ready .out, d .few)) n ∙ ap (bytesAt out) (sym q)
 
 pub drains-are-serves : DrainsAreServes
 drains-are-serves s out store budget ts one e room =

@@ -11,7 +11,7 @@ use Rattle.reorder_session.specs.Session.{slot}
 use Rattle.reorder_offer.specs.Opening.{openOf}
 use Rattle.reorder_session.specs.Calls.{offerOf, serveOf, drainOf, passOf}
 use Rattle.reorder_rules.specs.Turn.{Turn, packet}
-use Rattle.reorder_laws.specs.Serves.{answerAt, piece}
+use Rattle.reorder_laws.specs.Serves.{answerAt, bytesAt}
 
 -- position p is held, with the bytes b in the store
 pub record Holds (s : Session) (store : List ℕ) (p : ℕ) (b : List ℕ) : Type 0 where
@@ -21,7 +21,7 @@ pub record Holds (s : Session) (store : List ℕ) (p : ℕ) (b : List ℕ) : Typ
 -- a serve gives p, with the bytes b in its output
 pub record GivenBy (s : Session) (out store : List ℕ) (p : ℕ) (b : List ℕ) : Type 0 where
   pub said : serveOf s out store .said ≡ answered (packet p)
-  pub bytes : piece (serveOf s out store .bytes) 0 ≡ b
+  pub bytes : bytesAt (serveOf s out store .bytes) 0 ≡ b
 
 -- an answer of a drain gives p, with the bytes b where that answer's bytes stand
 pub record DrainedBy (s : Session) (out store : List ℕ) (budget p : ℕ) (b : List ℕ) : Type 0 where
@@ -29,7 +29,7 @@ pub record DrainedBy (s : Session) (out store : List ℕ) (budget p : ℕ) (b : 
   pub said : drainOf s out store budget .said ≡ answered turns
   pub number : ℕ
   pub answer : answerAt turns number ≡ packet p
-  pub bytes : piece (drainOf s out store budget .bytes) number ≡ b
+  pub bytes : bytesAt (drainOf s out store budget .bytes) number ≡ b
 
 pub record BytesComeOut : Type 0 where
   -- what an opening or an offer took is held, with its bytes

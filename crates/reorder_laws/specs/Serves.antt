@@ -32,8 +32,8 @@ abbrev pub answerAt : List Turn → ℕ → Turn
 answerAt ts i = getD ts i waiting
 
 -- the 1,080 bytes at 1,080 i
-abbrev pub piece : List ℕ → ℕ → List ℕ
-piece bytes i = part bytes (packetSize * i) packetSize
+abbrev pub bytesAt : List ℕ → ℕ → List ℕ
+bytesAt bytes i = part bytes (packetSize * i) packetSize
 
 -- a drain of s with this budget, which isn't refused and answers ts, against as many serves with outputs of at least 1,080 bytes
 pub record IsServes (s : Session) (out store : List ℕ) (budget : ℕ) (ts : List Turn) (one : List ℕ) : Type 0 where
@@ -42,9 +42,9 @@ pub record IsServes (s : Session) (out store : List ℕ) (budget : ℕ) (ts : Li
   pub session : drainOf s out store budget .session ≡ sessionAfter s (serves budget s one store)
   -- where the answer numbered i is a packet, the drain's bytes at 1,080 i are the first 1,080 of that serve's output
   pub given : (i p : ℕ) → answerAt ts i ≡ packet p
-      → piece (drainOf s out store budget .bytes) i ≡ piece (getD (map bytesBy (serves budget s one store)) i []) 0
+      → bytesAt (drainOf s out store budget .bytes) i ≡ bytesAt (getD (map bytesBy (serves budget s one store)) i []) 0
   -- and where it isn't, the bytes there stay
-  pub others : (i : ℕ) → ((p : ℕ) → answerAt ts i ≡ packet p → ⊥) → piece (drainOf s out store budget .bytes) i ≡ piece out i
+  pub others : (i : ℕ) → ((p : ℕ) → answerAt ts i ≡ packet p → ⊥) → bytesAt (drainOf s out store budget .bytes) i ≡ bytesAt out i
 
 abbrev pub DrainsAreServes : Type 0
 DrainsAreServes =

@@ -28,7 +28,7 @@ use Rattle.reorder_rules.proofs.Taken.{taken-offer}
 use Rattle.reorder_rules.specs.Turn.{Turn, packet, waiting}
 use Rattle.reorder_turn.proofs.Turns.{shows}
 use Rattle.reorder_rules.proofs.Ready.{serve-ready}
-use Rattle.reorder_laws.specs.Serves.{answerAt, piece}
+use Rattle.reorder_laws.specs.Serves.{answerAt, bytesAt}
 use Rattle.reorder_laws.proofs.Kept.{calls-keep}
 use Rattle.reorder_laws.proofs.Pieces.{piece-same, slot-length}
 use Rattle.reorder_laws.proofs.Bytes.{bytes-come-out}
@@ -246,9 +246,9 @@ module _ {σ : State} {s : Session} {es : List Event} (k : Stands σ s es) where
       room : 1080 ≤ length (filled n x)
       room = omega (arith, length-filled n x, serve-ready single s 34560 n (r .0) .out)
 
-      there : (j p : ℕ) → answerAt (t ∷ []) j ≡ packet p → piece (byServe σ n x .bytes) (0 + j) ≡ packetAt p
+      there : (j p : ℕ) → answerAt (t ∷ []) j ≡ packet p → bytesAt (byServe σ n x .bytes) (0 + j) ≡ packetAt p
       there zero p h =
-          ap (λ (c : List ℕ). piece c 0) (l .1 ∙ ap (shown (σ .session) 0 (σ .store) (filled n x)) h)
+          ap (λ (c : List ℕ). bytesAt c 0) (l .1 ∙ ap (shown (σ .session) 0 (σ .store) (filled n x)) h)
           ∙ piece-same (filled n x) (slot (σ .store) p) 0 (slot-length (σ .store) p (k .size)) (omega (arith, room))
           ∙ k .bytes p (gave-held s (turn s) (shows s) p (sym (r .1) ∙ h) .1)
       there (suc j) p h = let z : _≡_ {A = ℕ} 0 1 = cc in absurd (omega arith)
@@ -265,10 +265,10 @@ module _ {σ : State} {s : Session} {es : List Event} (k : Stands σ s es) where
       let a : byDrain σ n x budget .said ≡ answered ts = drain-said n x budget ∙ e in
       let d = drained (σ .session) (filled n x) (σ .store) budget ts a in
       let all : turns budget s ≡ ts = sym (d .all ∙ ap (turns budget) (k .session)) in
-      let there : (j p : ℕ) → answerAt ts j ≡ packet p → piece (byDrain σ n x budget .bytes) (0 + j) ≡ packetAt p =
+      let there : (j p : ℕ) → answerAt ts j ≡ packet p → bytesAt (byDrain σ n x budget .bytes) (0 + j) ≡ packetAt p =
       λ j p h.
       let q : 0 + j ≡ j = omega arith in
-      ap (piece (byDrain σ n x budget .bytes)) q ∙ drained-packet (σ .session) (filled n x) (σ .store) budget ts d j p h
+      ap (bytesAt (byDrain σ n x budget .bytes)) q ∙ drained-packet (σ .session) (filled n x) (σ .store) budget ts d j p h
       ∙ k .bytes p (given-held-all budget s j p (ap (λ (us : List Turn). answerAt us j) all ∙ h)) in
       after-turns _ ts _ (d .session ∙ ap (λ (u : Session). turnedAll u ts) (k .session))
       (λ q h. held-before-all budget s q (ap (λ (us : List Turn). heldAt (turnedAll s us .window) q) all ∙ h))
