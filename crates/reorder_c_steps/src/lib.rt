@@ -5,9 +5,8 @@ use reorder_session::Session;
 ghost use mathlib.Core.Path.{_≡_};
 ghost use Rattle.reorder_session.specs.Session.{single};
 ghost use Rattle.reorder_session.specs.Calls.{Offers, Serves, Drains, Passes};
-ghost use Rattle.reorder_offer.specs.Opening.{Opens};
-ghost use Rattle.reorder_histories.specs.History.{offer, serve, drain, offerTells, serveTells, drainTells, passTells, IsStep, IsPassStep};
-ghost use Rattle.reorder_histories.specs.Made.{IsStart};
+ghost use Rattle.reorder_offer.specs.Opening.{openOf, Opens};
+ghost use Rattle.reorder_histories.specs.History.{offer, serve, drain, offerTells, serveTells, drainTells, passTells, IsStart, IsStep, IsPassStep};
 ghost use Rattle.reorder_c.specs.Answers.{heldAnswer, servedAnswer, passedAnswer, positionSaid, turnSaid, turnsSaid, Tells};
 
 // Each of these makes one call. It promises what the call does, and that the call is the start, or a step, of a history.
@@ -21,7 +20,7 @@ pub fn open_start(
     ensures { λ r. ⌜ (Opens session (now (store .entry)) (now (packet .entry)) threshold «sum_word»
         (positionSaid (r .answer)) (r .session) (now (store .exit))
         × (r .answer ≡ heldAnswer (positionSaid (r .answer))))
-        × IsStart session (now (store .entry)) (now (packet .entry)) threshold «sum_word»
+        × IsStart (openOf session (now (store .entry)) (now (packet .entry)) threshold «sum_word») (now (packet .entry))
         (r .session) (now (store .exit)) (offerTells (positionSaid (r .answer)) (now (packet .entry))) ⌝ }
 {
     reorder_c::open(session, store, packet, threshold, sum_word)

@@ -23,8 +23,8 @@ use Rattle.reorder_laws.specs.Held.{Holds}
 use Rattle.reorder_laws.proofs.Kept.{whole-turned, whole-holding}
 use Rattle.reorder_laws.proofs.Pieces.{piece-same}
 use Rattle.reorder_laws.proofs.Bytes.{beside, turn-gives}
-use Rattle.reorder_histories.specs.History.{Event, took, gave, called-missing}
-use Rattle.reorder_histories.specs.Histories.{State, Served, CalledMissing, StillHeld}
+use Rattle.reorder_histories.specs.History.{Event, took, gave, called-missing, Served, CalledMissing}
+use Rattle.reorder_histories.specs.Histories.{State, StillHeld}
 use Rattle.reorder_histories.proofs.Between.{turnTold, turnedBy, oneTurn, toldBy, turnedOnce}
 
 -- ---- events

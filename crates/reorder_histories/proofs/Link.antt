@@ -14,8 +14,8 @@ use Rattle.reorder_rules.specs.Turn.{Turn, packet, missing, waiting}
 use Rattle.reorder_session.specs.Calls.{turn, turned}
 use Rattle.reorder_turn.proofs.Turns.{Shows, shows-packet, shows-missing, shows-waiting, shows}
 use Rattle.reorder_laws.proofs.Kept.{keeps-turned}
-use Rattle.reorder_histories.specs.History.{took, gave, called-missing}
-use Rattle.reorder_histories.specs.Histories.{State, Served, CalledMissing, StillHeld, NothingLost}
+use Rattle.reorder_histories.specs.History.{took, gave, called-missing, Served, CalledMissing}
+use Rattle.reorder_histories.specs.Histories.{State, StillHeld, NothingLost}
 use Rattle.reorder_histories.proofs.Between.{turnTold, afterTurn, oneTurn, toldBy, turnedOnce}
 use Rattle.reorder_histories.proofs.Buffer.{told-gave, told-missing, Buffer, Has, turned-held, turned-next, buffer-turned, has-turned, takes, Takes, took-other, took-same, took-bytes, slot-stays, took-gave, took-missing, has-taken, buffer-taken}
 

@@ -3,6 +3,7 @@ use Prim.Native.Nat.{ℕ, _+_}
 use mathlib.Core.Path.{_≡_, refl, ap, _∙_}
 use mathlib.Core.List.{List, [], _∷_, _++_}
 use Rattle.octets.specs.Refusal.{Said}
+use Rattle.reorder_rules.specs.Outcome.{Outcome, ComesTo}
 use Rattle.reorder_rules.specs.Buffer.{Buffer}
 use Rattle.reorder_rules.specs.Offer.{offerOf}
 use Rattle.reorder_rules.specs.Turn.{Turn}
@@ -14,9 +15,9 @@ use Rattle.reorder_session.specs.declared.Session.{Session}
 use Rattle.reorder_session.specs.Session.{single}
 use Rattle.reorder_offer.specs.Opening.{openOf, Opens}
 use Rattle.reorder_offer.proofs.Opening.{opens-itself}
-use Rattle.reorder_histories.specs.History.{Call, offer, serve, drain, pass, offerTells, serveTells, drainTells, passTells, State, start, step, runBy, run, MadeBy, CallMade, IsStep, IsPassStep}
-use Rattle.reorder_histories.specs.Histories.{Consumer, atStart, atEnd, HigherThresholdLosesNothing}
-use Rattle.reorder_histories.specs.Made.{OpenMade, IsStart, ConsumerMade, HistoriesLoseNothing}
+use Rattle.reorder_histories.specs.History.{Call, offer, serve, drain, pass, offerTells, serveTells, drainTells, passTells, State, start, step, runBy, run, MadeBy, CallMade, IsStep, IsPassStep, OpenMade, IsStart}
+use Rattle.reorder_histories.specs.Histories.{Consumer, opening, atStart, atEnd, HigherThresholdLosesNothing}
+use Rattle.reorder_histories.specs.Made.{ConsumerMade, HistoriesLoseNothing}
 
 -- states with the same parts are the same
 is-state : {S : Type 0} {σ τ : State S} → σ .session ≡ τ .session → σ .store ≡ τ .store → σ .events ≡ τ .events → σ ≡ τ
@@ -52,6 +53,14 @@ module _ {S : Type 0} (B : Buffer S) where
   made-step σ τ (drain out budget) m = is-state refl (m .same-store) (m .told) ∙ drain-step (m .promised) (σ .events)
   made-step σ τ pass m = is-state refl (m .same-store) (m .told) ∙ pass-step (m .promised) (σ .store) (σ .events)
 
+-- what an opening promises is a start
+pub open-start : {S : Type 0} (o : Outcome S ℕ) {s t : S} {store c : List ℕ} {x : Said ℕ} (b : List ℕ) → ComesTo o s store x t c
+    → IsStart o b t c (offerTells x b)
+open-start o b p = λ i. record { session = p .session i; store = p .bytes i; events = offerTells (p .answer i) b }
+
+made-start : {S : Type 0} (o : Outcome S ℕ) (s : S) (store b : List ℕ) (τ : State S) → OpenMade o s store b τ → τ ≡ start o b
+made-start o s store b τ m = is-state refl refl (m .told) ∙ open-start o b (m .promised)
+
 -- ---- histories, whatever makes the calls
 
 module _ {X C : Type 0} (by : X → C → X) (calls : X → C → X → Type 0) where
@@ -84,28 +93,19 @@ step-made σ (drain out budget) =
     }
 step-made σ pass = record { said = passOf single (σ .session) .said; promised = passes-itself single (σ .session); same-store = refl; told = refl }
 
--- what an opening promises is a start
-pub open-start : {s t : Session} {store c : List ℕ} {x : Said ℕ} (b : List ℕ) (threshold word : ℕ) → Opens s store b threshold word x t c
-    → IsStart s store b threshold word t c (offerTells x b)
-open-start b threshold word p = λ i. record { session = p .session i; store = p .bytes i; events = offerTells (p .answer i) b }
-
-made-start : (s : Session) (store b : List ℕ) (threshold word : ℕ) (τ : State Session) → OpenMade s store b threshold word τ
-    → τ ≡ start (openOf s store b threshold word) b
-made-start s store b threshold word τ m = is-state refl refl (m .told) ∙ open-start b threshold word (m .promised)
-
-start-made : (s : Session) (store b : List ℕ) (threshold word : ℕ) → OpenMade s store b threshold word (start (openOf s store b threshold word) b)
-start-made s store b threshold word =
-    record { said = openOf s store b threshold word .said; promised = opens-itself s store b threshold word; told = refl }
+start-made : (c : Consumer) (b : List ℕ) (word : ℕ) → OpenMade (opening c b word) (c .before) (c .store) b (atStart c b word)
+start-made c b word =
+    record { said = opening c b word .said; promised = opens-itself (c .before) (c .store) b (c .threshold) word; told = refl }
 
 comes-to-end : (c : Consumer) (b : List ℕ) (word : ℕ) (τ : State Session) → ConsumerMade c b word τ → τ ≡ atEnd c b word
 comes-to-end c b word τ (σ, o, m) =
-    made-runs (step single) (CallMade single) (made-step single) σ τ (c .calls) m ∙ ap (λ (x : State Session). run single x (c .calls)) (made-start _ _ b _ word σ o)
+    made-runs (step single) (CallMade single) (made-step single) σ τ (c .calls) m ∙ ap (λ (x : State Session). run single x (c .calls)) (made-start (opening c b word) (c .before) (c .store) b σ o)
 
 pub histories-lose-nothing : HigherThresholdLosesNothing → HistoriesLoseNothing
 histories-lose-nothing h =
     record {
       can-hold = λ c b word.
-          (atStart c b word, start-made (c .before) (c .store) b (c .threshold) word, made-holds (step single) (CallMade single) step-made (atStart c b word) (c .calls));
+          (atStart c b word, start-made c b word, made-holds (step single) (CallMade single) step-made (atStart c b word) (c .calls));
       is-start = made-start;
       is-step = made-step single;
       are-runs = made-runs (step single) (CallMade single) (made-step single);

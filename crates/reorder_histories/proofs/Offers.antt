@@ -22,7 +22,7 @@ use Rattle.reorder_session.specs.Calls.{positionOf, offerDue, offerOf}
 use Rattle.reorder_rules.proofs.Said.{said-is}
 use Rattle.reorder_rules.proofs.Free.{offered-free}
 use Rattle.reorder_rules.proofs.Taken.{taken-offer}
-use Rattle.reorder_session.proofs.Whole.{unbroken}
+use Rattle.reorder_session.proofs.Whole.{fit-whole}
 use Rattle.reorder_histories.specs.History as Any
 use Rattle.reorder_histories.specs.History.{offer, offerTells}
 use Rattle.reorder_histories.specs.Histories.{State, step, NotTooFar}
@@ -70,7 +70,7 @@ module _ (f : ℕ) (a b : State) (lk : Link f a b) (x : List ℕ) where
   b-takes p m near t e =
       let l = a-takes p t in
       go
-      (offered-free single (b .session) (length (b .store)) x p (unbroken _ (lk .buffer-b .sound)) (lk .buffer-b .size) (sym same-read ∙ t .read) (sym same-position ∙ t .position .at)
+      (offered-free single (b .session) (length (b .store)) x p (fit-whole _ (lk .buffer-b .sound)) (lk .buffer-b .size) (sym same-read ∙ t .read) (sym same-position ∙ t .position .at)
       (omega (arith, lk .next-b)) (t .position .most) (sym (lk .above p l) ∙ t .position .free))
     where
       go : (saidBy b x ≡ answered p) ⊎ (saidBy b x ≡ refused 25) → ⊥
@@ -90,7 +90,7 @@ module _ (f : ℕ) (a b : State) (lk : Link f a b) (x : List ℕ) where
       go (no m) =
           absurd
           (by
-          (offered-free single (a .session) (length (a .store)) x p (unbroken _ (lk .buffer-a .sound)) (lk .buffer-a .size) (same-read ∙ t .read) (same-position ∙ t .position .at)
+          (offered-free single (a .session) (length (a .store)) x p (fit-whole _ (lk .buffer-a .sound)) (lk .buffer-a .size) (same-read ∙ t .read) (same-position ∙ t .position .at)
           (omega (arith, lk .next-a)) (t .position .most) (lk .above p (omega arith) ∙ t .position .free)))
 
   same-taken : (p q : ℕ) → Takes a p x → Takes b q x → q ≡ p

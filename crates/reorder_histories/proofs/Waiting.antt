@@ -9,7 +9,7 @@ use lib.ListN.{length}
 use Rattle.reorder_rules.specs.Turn as Turn-rules
 use Rattle.reorder_rules.specs.Serve as Serve-rules
 use Rattle.octets.specs.Refusal.{answered, say}
-use Rattle.octets.proofs.Ladder.{pass, pass-eq, pass-le, say-answered}
+use Rattle.octets.proofs.Ladder.{then-pass, pass-eq, pass-le, say-answered}
 use Rattle.window.specs.Window.{heldAt}
 use Rattle.window.proofs.Tests.{not-then-false}
 use Rattle.window.proofs.Held.{held-least, held-most, none-held}
@@ -20,7 +20,7 @@ use Rattle.reorder_rules.specs.Turn.{Turn, waiting}
 use Rattle.reorder_session.specs.Calls.{turn, turns, turnedAll, shownAll, serveOf, drainOf, drainRefusal}
 use Rattle.reorder_rules.proofs.Turns.{turn-waiting, one-more, moves-or, Moves, turns-stop, turns-more}
 use Rattle.reorder_turn.proofs.Turns.{shows}
-use Rattle.reorder_session.proofs.Whole.{Whole, whole, unbroken}
+use Rattle.reorder_session.proofs.Whole.{Whole, whole, unbroken, whole-fit, fit-whole}
 use Rattle.reorder_laws.proofs.Kept.{keeps-turns, calls-keep}
 use Rattle.reorder_laws.proofs.Drains.{drained, fine}
 use Rattle.reorder_histories.specs.History as Any
@@ -57,7 +57,7 @@ drained-waits σ out ts e =
     let d = drained s out (σ .store) budget ts e in
     let t = turnedAll s (turns budget s) in
     let same : drainOf s out (σ .store) budget .session ≡ t = d .session ∙ ap (turnedAll s) (d .all) in
-    let v : Whole t = whole t (keeps-turns budget s .unbroken (d .ready .unbroken)) in
+    let v : Whole t = whole t (keeps-turns budget s .unbroken (unbroken s (whole-fit s (d .ready .fit)))) in
     let f = fine (σ .store) (d .ready .store) out (omega (arith, d .ready .out)) t v in
     let all : turn t ≡ waiting = past-all budget s (λ q h. omega (arith, held-most (s .window) q h)) in
     record {
@@ -97,7 +97,7 @@ module _ (out : List ℕ) (room : length out ≡ 34560) where
       let n = drainRefusal s (length (σ .store)) (length out) budget in
       let z : n ≡ 0 =
       sym
-      (pass _ 30 _ 0 (ap not (unbroken s (r .sound)))
+      (then-pass _ _ 0 (fit-whole s (r .sound))
       (pass-eq (length (σ .store)) 34560 27 _ 0 (r .size) (pass-eq (length out) 34560 29 _ 0 room (pass-le budget 32 31 0 0 (omega arith) refl)))) in
       drained-waits σ out (turns budget s)
       (said-is (say n (turns budget s)) s out (turnedAll s) (shownAll s 0 (σ .store) out) ∙ sym (say-answered n (turns budget s) (turns budget s) z refl))

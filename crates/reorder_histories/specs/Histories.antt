@@ -3,19 +3,18 @@
 use Prim.Native.Nat.{ℕ, _≤_}
 use mathlib.Core.Path.{_≡_}
 use mathlib.Core.Bool.{Bool, true, false}
-use mathlib.Core.List.{List, [], _∷_, _++_, List·Memᴰ}
-use mathlib.Core.Logic.{_⊎_}
+use mathlib.Core.List.{List, [], _∷_}
 use lib.ListN.{length}
 use Rattle.octets.specs.Refusal.{refused, answered}
 use Rattle.packet_layout.specs.Layout.{packetSize}
 use Rattle.reorder_rules.specs.Outcome.{Outcome}
 use Rattle.reorder_rules.specs.Turn.{waiting}
 use Rattle.reorder_session.specs.declared.Session.{Session}
-use Rattle.reorder_session.specs.Session.{slot, single}
+use Rattle.reorder_session.specs.Session.{single}
 use Rattle.reorder_session.specs.Calls.{offerOf, serveOf, passOf}
 use Rattle.reorder_offer.specs.Opening.{openOf}
 use Rattle.reorder_histories.specs.History as Any
-use Rattle.reorder_histories.specs.History.{Call, offer, serve, drain, pass, offers, Event, took, gave, called-missing, start}
+use Rattle.reorder_histories.specs.History.{Call, offer, serve, drain, pass, offers, start}
 
 -- ---- the lists of a reorder buffer of one consumer
 
@@ -91,26 +90,11 @@ pub record OpenedAlike (less more : Consumer) (b : List ℕ) (word : ℕ) : Type
 
 -- ---- what then holds at the end
 
-abbrev pub Served : State → ℕ → List ℕ → Type 0
-Served σ p b = List·Memᴰ (gave p b) (σ .events)
+abbrev pub StillHeld : State → ℕ → List ℕ → Type 0
+StillHeld = Any.StillHeld single
 
-abbrev pub CalledMissing : State → ℕ → Type 0
-CalledMissing σ p = List·Memᴰ (called-missing p) (σ .events)
-
--- "A packet is still held at p when the opening (p = 0) or an offer answered with p took it, and no serve or drain has given p since;
--- its bytes are p's 1,080 in the store." They are those that were taken.
-pub record StillHeld (σ : State) (p : ℕ) (b : List ℕ) : Type 0 where
-  pub earlier : List Event
-  pub since : List Event
-  pub taken : σ .events ≡ earlier ++ took p b ∷ since
-  pub not-given : (c : List ℕ) → List·Memᴰ (gave p c) since → ⊥
-  pub bytes : slot (σ .store) p ≡ b
-
-pub record NothingLost (less more : State) : Type 0 where
-  -- "Each packet that the less patient rack served is served by the more patient one, or still held there, at the same place with the same bytes."
-  pub served : (p : ℕ) (b : List ℕ) → Served less p b → Served more p b ⊎ StillHeld more p b
-  -- "And each place that the more patient one called missing the other has called missing too."
-  pub missing-too : (p : ℕ) → CalledMissing more p → CalledMissing less p
+abbrev pub NothingLost : State → State → Type 0
+NothingLost = Any.NothingLost single
 
 -- "Demand 3 is one claim about the two whole lists, not one for each call."
 abbrev pub HigherThresholdLosesNothing : Type 0

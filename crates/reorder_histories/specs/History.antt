@@ -1,9 +1,10 @@
 -- Document 01, "The lists of demand 3": lists of calls and what they come to, whatever the session's type S and whatever makes the calls.
 use Prim.Native.Nat.{ℕ, suc}
 use mathlib.Core.Path.{_≡_}
-use mathlib.Core.List.{List, [], _∷_, _++_}
+use mathlib.Core.List.{List, [], _∷_, _++_, List·Memᴰ}
+use mathlib.Core.Logic.{_⊎_}
 use Rattle.octets.specs.Refusal.{Said, refused, answered}
-use Rattle.reorder_rules.specs.Outcome.{Outcome}
+use Rattle.reorder_rules.specs.Outcome.{Outcome, ComesTo}
 use Rattle.reorder_rules.specs.Buffer.{Buffer}
 use Rattle.reorder_rules.specs.Offer.{offerOf}
 use Rattle.reorder_rules.specs.Turn.{Turn, packet, missing, waiting}
@@ -99,12 +100,45 @@ module _ {S : Type 0} (B : Buffer S) where
   abbrev pub run : State S → List Call → State S
   run = runBy step
 
+-- ---- what a list comes to
+
+abbrev pub Served : {S : Type 0} → State S → ℕ → List ℕ → Type 0
+Served σ p b = List·Memᴰ (gave p b) (σ .events)
+
+abbrev pub CalledMissing : {S : Type 0} → State S → ℕ → Type 0
+CalledMissing σ p = List·Memᴰ (called-missing p) (σ .events)
+
+-- "A packet is still held at p when the opening (p = 0) or an offer answered with p took it, and no serve or drain has given p since;
+-- its bytes are p's 1,080 in the store." They are those that were taken.
+pub record StillHeld {S : Type 0} (B : Buffer S) (σ : State S) (p : ℕ) (b : List ℕ) : Type 0 where
+  pub earlier : List Event
+  pub since : List Event
+  pub taken : σ .events ≡ earlier ++ took p b ∷ since
+  pub not-given : (c : List ℕ) → List·Memᴰ (gave p c) since → ⊥
+  pub bytes : B .bytes (σ .session) (σ .store) p ≡ b
+
+pub record NothingLost {S : Type 0} (B : Buffer S) (less more : State S) : Type 0 where
+  -- "Each packet that the less patient rack served is served by the more patient one, or still held there, at the same place with the same bytes."
+  pub served : (p : ℕ) (b : List ℕ) → Served less p b → Served more p b ⊎ StillHeld B more p b
+  -- "And each place that the more patient one called missing the other has called missing too."
+  pub missing-too : (p : ℕ) → CalledMissing more p → CalledMissing less p
+
 -- ---- a history: the calls as they were made
 
 -- each call, by whatever makes it, goes from the state that the last one left
 unfoldable pub MadeBy : {X C : Type 0} → (X → C → X → Type 0) → X → List C → X → Type 0
 MadeBy calls σ [] τ = τ ≡ σ
 MadeBy {X} calls σ (c ∷ cs) τ = (υ : X) × calls σ c υ × MadeBy calls υ cs τ
+
+-- An opening with the packet b that comes to o, of the session s and a store, and keeps its promise: what it left, and what its answer tells, is τ.
+pub record OpenMade {S : Type 0} (o : Outcome S ℕ) (s : S) (store b : List ℕ) (τ : State S) : Type 0 where
+  pub said : Said ℕ
+  pub promised : ComesTo o s store said (τ .session) (τ .store)
+  pub told : τ .events ≡ offerTells said b
+
+-- an opening of the packet b that comes to o, leaves t and c, and whose answer tells these events, is the start of a list
+abbrev pub IsStart : {S : Type 0} → Outcome S ℕ → List ℕ → S → List ℕ → List Event → Type 0
+IsStart o b t c told = (record { session = t; store = c; events = told }) ≡ start o b
 
 -- A call from σ to τ that keeps its promise, of what it said, and whose events are told by that; `output` is what a serve or a drain leaves in
 -- its output. By value, over a lent session and in numbers the promise is the same.

@@ -21,7 +21,7 @@ use Rattle.reorder_rules.specs.Turn.{Turn, packet, missing, waiting}
 use Rattle.reorder_turn.proofs.Turns.{Shows, shows-packet, shows-missing, shows-waiting, shows}
 use Rattle.reorder_rules.proofs.Free.{offered-near}
 use Rattle.reorder_rules.proofs.Ready.{serve-ready, pass-ready}
-use Rattle.reorder_session.proofs.Whole.{Whole, whole, unbroken}
+use Rattle.reorder_session.proofs.Whole.{Whole, whole-fit, fit-whole}
 use Rattle.reorder_laws.specs.Room.{TakesAgain, RoomIsUsedAgain}
 use Rattle.reorder_laws.proofs.Kept.{whole-turned, whole-skipped}
 
@@ -33,7 +33,7 @@ takes-again t store p v size e free =
     record {
       taken = λ b read at top.
           said-is (offerDue t (length store) b) t store _ _
-          ∙ offered-near single t (length store) b (p + 32) (unbroken t v) size read at (omega arith) top free (omega arith);
+          ∙ offered-near single t (length store) b (p + 32) (fit-whole t v) size read at (omega arith) top free (omega arith);
       same-bytes = (let q : (p + 32) % 32 ≡ p % 32 = omega arith in ap (λ (k : ℕ). 1080 * k) q);
     }
 
@@ -73,7 +73,7 @@ after-serve s out store p t e g =
     let r = serve-ready single s (length store) (length out) (a .0) in
     let m = moved-on s p (turn s) (shows s) (subst (λ (u : Turn). Gone u p) (a .1) g) in
     subst (λ (u : Session). TakesAgain u store p) (sym (l .session ∙ ap (turned s) (a .1)))
-    (takes-again (turned s (turn s)) store p (whole-turned s (whole s (r .unbroken))) (r .store) (m .0) (m .1))
+    (takes-again (turned s (turn s)) store p (whole-turned s (whole-fit s (r .fit))) (r .store) (m .0) (m .1))
 
 -- ---- after a pass
 
@@ -83,7 +83,7 @@ after-pass s store p e size =
     let l = left (say (passRefusal s) (s .window .start)) s [] _ _ p e in
     let a = answer-said (passRefusal s) (s .window .start) p (sym (l .answer)) in
     let r = pass-ready single s (a .0) in
-    let v = whole s (r .unbroken) in
+    let v = whole-fit s (r .fit) in
     let i : p ≡ s .window .start = a .1 in
     subst (λ (u : Session). TakesAgain u store p) (sym (l .session))
     (takes-again (withWindow s (skipped (s .window))) store p

@@ -10,7 +10,7 @@ use lib.ListN.{length, replicate, getD}
 use Rattle.reorder_rules.specs.Turn as Turn-rules
 use Rattle.reorder_rules.specs.Serve as Serve-rules
 use Rattle.octets.specs.Refusal.{Said, answered, say}
-use Rattle.octets.proofs.Ladder.{pass, pass-eq, pass-le, say-answered, answer-said}
+use Rattle.octets.proofs.Ladder.{then-pass, pass-eq, pass-le, say-answered, answer-said}
 use Rattle.reorder_session.specs.declared.Session.{Session}
 use Rattle.reorder_session.specs.Session.{slot, single}
 use Rattle.reorder_rules.specs.Outcome.{outcome}
@@ -19,7 +19,7 @@ use Rattle.reorder_rules.specs.Turn.{Turn, packet, waiting}
 use Rattle.reorder_session.specs.Calls.{turn, turned, shown, turns, turnedAll, shownAll, serveRefusal, drainRefusal, serveOf, drainOf}
 use Rattle.reorder_rules.proofs.Turns.{turns-stop, Split, turns-split, turns-most}
 use Rattle.reorder_rules.proofs.Ready.{DrainReady, drain-ready}
-use Rattle.reorder_session.proofs.Whole.{Whole, whole, unbroken}
+use Rattle.reorder_session.proofs.Whole.{Whole, whole-fit, fit-whole}
 use Rattle.reorder_laws.specs.Serves.{serves, sessionAfter, saidBy, bytesBy, answerAt, bytesAt, DrainsAreServes}
 use Rattle.reorder_laws.proofs.Kept.{whole-turned}
 use Rattle.reorder_laws.proofs.Pieces.{piece-same, slot-length, shown-packet, shown-other}
@@ -40,7 +40,7 @@ module _ (store : List ℕ) (size : length store ≡ 34560) (one : List ℕ) (ro
   fine s v =
       let n = serveRefusal s (length store) (length one) in
       let z : n ≡ 0 =
-      sym (pass _ 30 _ 0 (ap not (unbroken s v)) (pass-eq (length store) 34560 27 _ 0 size (pass-le 1080 (length one) 29 0 0 room refl))) in
+      sym (then-pass _ _ 0 (fit-whole s v) (pass-eq (length store) 34560 27 _ 0 size (pass-le 1080 (length one) 29 0 0 room refl))) in
       let e : say n (turn s) ≡ answered (turn s) = sym (say-answered n (turn s) (turn s) z refl) in
       record {
         says = ap (λ (x : Said Turn). outcome x s one (turned s) (shown s 0 store one) .said) e;
@@ -155,7 +155,7 @@ drained-other s out store budget ts d i n =
 pub drains-are-serves : DrainsAreServes
 drains-are-serves s out store budget ts one e room =
     let d = drained s out store budget ts e in
-    let v = whole s (d .ready .unbroken) in
+    let v = whole-fit s (d .ready .fit) in
     let z = d .ready .store in
     record {
       answers = said-all store z one room budget s v ∙ ap (padded budget) (sym (d .all));

@@ -9,7 +9,7 @@ use lib.IntN.{ℤ, pos, negsuc, natAbs}
 use lib.Signed.{leZ}
 use Rattle.numbers.proofs.Integers.{ints}
 use Rattle.octets.specs.Refusal.{Said, refused, answered}
-use Rattle.octets.proofs.Ladder.{passed, answer-said}
+use Rattle.octets.proofs.Ladder.{passed, then-zero, answer-said}
 use Rattle.packet_check.specs.Refusal.{readRefusal}
 use Rattle.packet.specs.Fields.{fieldsOf}
 use Rattle.reorder_rules.specs.Buffer.{Buffer}
@@ -55,7 +55,7 @@ admitted-at next held (answered z) p e =
 
 module _ {S : Type 0} (B : Buffer S) where
   pub record Taken (s : S) (size : ℕ) (b : List ℕ) (p : ℕ) : Type 0 where
-    pub unbroken : B .broken s ≡ false
+    pub fit : B .unfit s ≡ 0
     pub store : size ≡ 34560
     pub read : readRefusal b (B .word s) ≡ 0
     pub position : Admitted (B .start s) (B .held s) (positionOf B s (fieldsOf b)) p
@@ -64,10 +64,10 @@ module _ {S : Type 0} (B : Buffer S) where
   unfolding offerRefusal offerDue
   taken-offer s size b p e =
       let r = refusing-none _ _ p e in
-      let c1 = passed _ 29 _ (r .0) in
+      let c1 = then-zero _ _ (r .0) in
       let c2 = passed _ 26 _ (c1 .1) in
       record {
-        unbroken = not-true (B .broken s) (c1 .0);
+        fit = c1 .0;
         store = eqb-true _ _ (c2 .0);
         read = c2 .1;
         position = admitted-at (B .start s) (B .held s) _ p (r .1);

@@ -6,8 +6,8 @@ use mathlib.Core.List.{List}
 use Rattle.position.specs.declared.Anchor.{Anchor}
 
 pub record Buffer (S : Type 0) : Type 0 where
-  -- 30: session broken
-  pub broken : S → Bool
+  -- the refusal that comes before a call's others, or 0: 30, session broken
+  pub unfit : S → ℕ
   -- count and time of the opening packet, and the word of the packets' sum
   pub anchor : S → Anchor
   pub word : S → ℕ

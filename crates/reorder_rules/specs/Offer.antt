@@ -6,7 +6,7 @@ use lib.Dec.{eqb}
 use lib.IntN.{ℤ, pos, natAbs}
 use lib.ListN.{length}
 use lib.Signed.{leZ}
-use Rattle.octets.specs.Refusal.{refuse_unless_else_, Said, refused, answered, say}
+use Rattle.octets.specs.Refusal.{refuse_unless_else_, _then_, Said, refused, answered, say}
 use Rattle.packet_check.specs.Refusal.{readRefusal}
 use Rattle.packet.specs.declared.PacketFields.{PacketFields}
 use Rattle.packet.specs.Fields.{fieldsOf}
@@ -37,7 +37,7 @@ module _ {S : Type 0} (B : Buffer S) where
   -- 30, 27: session broken; store, of this size, not 34,560 bytes. Then the reader's 1 to 10
   unfoldable pub offerRefusal : S → ℕ → List ℕ → ℕ
   offerRefusal s size b =
-      refuse 30 unless not (B .broken s) else
+      B .unfit s then
       refuse 27 unless eqb size storeSize else
       readRefusal b (B .word s)
 

@@ -4,7 +4,7 @@ use mathlib.Core.Bool.{not}
 use mathlib.Core.List.{List}
 use lib.Dec.{eqb, leb}
 use lib.ListN.{length}
-use Rattle.octets.specs.Refusal.{refuse_unless_else_, say}
+use Rattle.octets.specs.Refusal.{refuse_unless_else_, _then_, say}
 use Rattle.packet_layout.specs.Layout.{packetSize}
 use Rattle.reorder_rules.specs.Sizes.{positions, storeSize}
 use Rattle.reorder_rules.specs.Outcome.{Outcome, outcome}
@@ -15,7 +15,7 @@ module _ {S : Type 0} (B : Buffer S) where
   -- 30, 27, 29: session broken; store not 34,560 bytes; output under 1,080
   unfoldable pub serveRefusal : S → ℕ → ℕ → ℕ
   serveRefusal s store-size out-size =
-      refuse 30 unless not (B .broken s) else
+      B .unfit s then
       refuse 27 unless eqb store-size storeSize else
       refuse 29 unless leb packetSize out-size else
       0
@@ -27,7 +27,7 @@ module _ {S : Type 0} (B : Buffer S) where
   -- 30, 27, 29, 31: session broken; store not 34,560 bytes; output not 34,560; budget over 32
   unfoldable pub drainRefusal : S → ℕ → ℕ → ℕ → ℕ
   drainRefusal s store-size out-size budget =
-      refuse 30 unless not (B .broken s) else
+      B .unfit s then
       refuse 27 unless eqb store-size storeSize else
       refuse 29 unless eqb out-size storeSize else
       refuse 31 unless leb budget positions else

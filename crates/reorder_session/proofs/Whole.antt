@@ -1,19 +1,19 @@
 -- A session that isn't broken, as facts about its fields.
 use Prim.Native.Nat.{ℕ, _≤_}
-use mathlib.Core.Path.{_≡_, refl}
+use mathlib.Core.Path.{_≡_, refl, sym, ap}
 use mathlib.Core.Bool.{true, false, not}
 use native.Mathlib.Decide.{decLe}
 use native.Mathlib.Omega.{arith}
-use borrow.Author.Tests.{ltb-false, le-ltb, le-leb, not-false}
+use borrow.Author.Tests.{ltb-false, le-ltb, le-leb, not-true, not-false}
 use lib.Dec.{ltb}
-use Rattle.octets.proofs.Ladder.{within-true}
+use Rattle.octets.proofs.Ladder.{pass, fail, passed, within-true}
 use Rattle.packet_layout.specs.SumWord.{isSumWord}
 use Rattle.reorder_rules.specs.Sizes.{isThreshold}
 use Rattle.window.specs.Window.{heldAt, someHeld}
 use Rattle.window.proofs.Tests.{or-neither}
 use Rattle.window.proofs.Held.{held-none, none-held}
 use Rattle.reorder_session.specs.declared.Session.{Session}
-use Rattle.reorder_session.specs.Session.{pastEnd, broken}
+use Rattle.reorder_session.specs.Session.{pastEnd, broken, single}
 
 pub record Whole (s : Session) : Type 0 where
   pub count : s .anchor .count ≤ 16383
@@ -60,3 +60,17 @@ unbroken s v =
       le-ltb 1000000 (s .window .start) (v .next-most),
       f,
     ) refl
+
+-- ---- the refusal that comes first, 30
+
+pub fit : (s : Session) → broken s ≡ false → single .unfit s ≡ 0
+fit s e = sym (pass _ 30 0 0 (ap not e) refl)
+
+pub unfit : (s : Session) → broken s ≡ true → 30 ≡ single .unfit s
+unfit s e = fail _ 30 0 (ap not e)
+
+pub whole-fit : (s : Session) → single .unfit s ≡ 0 → Whole s
+whole-fit s e = whole s (not-true (broken s) (passed _ 29 0 e .0))
+
+pub fit-whole : (s : Session) → Whole s → single .unfit s ≡ 0
+fit-whole s v = fit s (unbroken s v)

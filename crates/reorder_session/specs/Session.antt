@@ -4,6 +4,7 @@ use mathlib.Core.Bool.{Bool, not, _||_}
 use mathlib.Core.List.{List}
 use lib.Dec.{ltb}
 use Rattle.octets.specs.Bytes.{part, put}
+use Rattle.octets.specs.Refusal.{refuse_unless_else_}
 use Rattle.window.specs.declared.Window.{Window}
 use Rattle.window.specs.Window.{heldAt, someHeld, holding, freed, skipped}
 use Rattle.packet_layout.specs.Layout.{packetSize}
@@ -36,7 +37,7 @@ slot store p = part store (slotStart p) packetSize
 abbrev pub single : Buffer Session
 single =
     record {
-      broken = broken;
+      unfit = λ s. refuse 30 unless not (broken s) else 0;
       anchor = λ s. s .anchor;
       word = λ s. s .«sum_word»;
       start = λ s. s .window .start;

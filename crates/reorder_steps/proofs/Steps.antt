@@ -9,7 +9,7 @@ use Rattle.reorder_session.specs.Calls.{offerOf, drainOf, Offers, Drains}
 use Rattle.reorder_offer.specs.Opening.{Opens, noSession}
 use Rattle.reorder_histories.specs.History.{offerTells, drainTells, MadeBy}
 use Rattle.reorder_histories.specs.Histories.{State}
-use Rattle.reorder_steps.specs.Short.{firstOf, secondOf, Short}
+use Rattle.reorder_steps.specs.Short.{firstCall, secondCall, Short}
 
 -- an opening that is given a session of all zeros
 pub from-none : (store first : List ℕ) (threshold word : ℕ) {r s : Session} {c : List ℕ} {x : Said ℕ} → r ≡ noSession → Opens r store first threshold word x s c
@@ -22,8 +22,8 @@ module _ (store out first b : List ℕ) (threshold word : ℕ) where
       → Short store out first b threshold word z u d e
   unfolding MadeBy
   short {s} {t} {u} {c} {d} {e} {x} {y} {z} p q r =
-      let o = firstOf store first threshold word in
-      let second = secondOf store first b threshold word in
+      let o = firstCall store first threshold word in
+      let second = secondCall store first b threshold word in
       let ts : t ≡ second .session = q .session ∙ (λ i. offerOf (p .session i) (p .bytes i) b .session) in
       let ds : d ≡ second .bytes = q .bytes ∙ (λ i. offerOf (p .session i) (p .bytes i) b .bytes) in
       let ys : y ≡ second .said = q .answer ∙ (λ i. offerOf (p .session i) (p .bytes i) b .said) in

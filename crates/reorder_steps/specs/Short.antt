@@ -10,32 +10,31 @@ use Rattle.reorder_session.specs.declared.Session.{Session}
 use Rattle.reorder_session.specs.Session.{single}
 use Rattle.reorder_session.specs.Calls.{offerOf, drainOf}
 use Rattle.reorder_offer.specs.Opening.{openOf, noSession}
-use Rattle.reorder_histories.specs.History.{offer, drain, offerTells, drainTells, MadeBy, CallMade}
+use Rattle.reorder_histories.specs.History.{offer, drain, offerTells, drainTells, MadeBy, OpenMade, CallMade}
 use Rattle.reorder_histories.specs.Histories.{State}
-use Rattle.reorder_histories.specs.Made.{OpenMade}
 
 -- what the three come to
-abbrev pub firstOf : List ℕ → List ℕ → ℕ → ℕ → Outcome Session ℕ
-firstOf store first threshold word = openOf noSession store first threshold word
+abbrev pub firstCall : List ℕ → List ℕ → ℕ → ℕ → Outcome Session ℕ
+firstCall store first threshold word = openOf noSession store first threshold word
 
-abbrev pub secondOf : List ℕ → List ℕ → List ℕ → ℕ → ℕ → Outcome Session ℕ
-secondOf store first b threshold word = let o = firstOf store first threshold word in offerOf (o .session) (o .bytes) b
+abbrev pub secondCall : List ℕ → List ℕ → List ℕ → ℕ → ℕ → Outcome Session ℕ
+secondCall store first b threshold word = let o = firstCall store first threshold word in offerOf (o .session) (o .bytes) b
 
-abbrev pub thirdOf : List ℕ → List ℕ → List ℕ → List ℕ → ℕ → ℕ → Outcome Session (List Turn)
-thirdOf store out first b threshold word = let o = secondOf store first b threshold word in drainOf (o .session) out (o .bytes) positions
+abbrev pub thirdCall : List ℕ → List ℕ → List ℕ → List ℕ → ℕ → ℕ → Outcome Session (List Turn)
+thirdCall store out first b threshold word = let o = secondCall store first b threshold word in drainOf (o .session) out (o .bytes) positions
 
 -- the last says x; t, c and o are the session, the store and the output then
 pub record Short (store out first b : List ℕ) (threshold word : ℕ) (x : Said (List Turn)) (t : Session) (c o : List ℕ) : Type 0 where
-  pub said : x ≡ thirdOf store out first b threshold word .said
-  pub session : t ≡ thirdOf store out first b threshold word .session
-  pub stored : c ≡ secondOf store first b threshold word .bytes
-  pub output : o ≡ thirdOf store out first b threshold word .bytes
+  pub said : x ≡ thirdCall store out first b threshold word .said
+  pub session : t ≡ thirdCall store out first b threshold word .session
+  pub stored : c ≡ secondCall store first b threshold word .bytes
+  pub output : o ≡ thirdCall store out first b threshold word .bytes
   -- the three calls kept their promises, and the events are those that they tell
   pub opening : State
-  pub opened : OpenMade noSession store first threshold word opening
+  pub opened : OpenMade (firstCall store first threshold word) noSession store first opening
   pub called : MadeBy (CallMade single) opening (offer b ∷ drain out positions ∷ [])
       (record {
         session = t;
         store = c;
-        events = (offerTells (firstOf store first threshold word .said) first ++ offerTells (secondOf store first b threshold word .said) b) ++ drainTells x o;
+        events = (offerTells (firstCall store first threshold word .said) first ++ offerTells (secondCall store first b threshold word .said) b) ++ drainTells x o;
       })

@@ -7,18 +7,17 @@ use reorder_session::Session;
 ghost use Rattle.reorder_admission.specs.Answer.{offerSaid};
 ghost use Rattle.reorder_session.specs.Session.{single};
 ghost use Rattle.reorder_session.specs.Calls.{Offers, Serves, Drains, Passes};
-ghost use Rattle.reorder_offer.specs.Opening.{Opens, noSession};
+ghost use Rattle.reorder_offer.specs.Opening.{openOf, Opens, noSession};
 ghost use Rattle.reorder_turn.specs.Answer.{serveSaid};
 ghost use Rattle.reorder_serve.specs.Report.{reportSaid, Reports};
 ghost use Rattle.reorder_pass.specs.Answer.{passSaid};
-ghost use Rattle.reorder_histories.specs.History.{offer, serve, drain, offerTells, serveTells, drainTells, passTells, IsStep, IsPassStep};
-ghost use Rattle.reorder_histories.specs.Made.{IsStart};
+ghost use Rattle.reorder_histories.specs.History.{offer, serve, drain, offerTells, serveTells, drainTells, passTells, IsStart, IsStep, IsPassStep};
 ghost use Rattle.reorder_steps.specs.Short.{Short};
 
 // Each of these makes one call. It promises what the call does, and that the call is the start, or a step, of a history.
 pub fn open_start(store: &mut [u8], packet: &[u8], threshold: u32, sum_word: u32) -> Offered
     ensures { λ r. ⌜ Opens noSession (now (store .entry)) (now (packet .entry)) threshold «sum_word» (offerSaid (r .answer)) (r .session) (now (store .exit))
-        × IsStart noSession (now (store .entry)) (now (packet .entry)) threshold «sum_word»
+        × IsStart (openOf noSession (now (store .entry)) (now (packet .entry)) threshold «sum_word») (now (packet .entry))
         (r .session) (now (store .exit)) (offerTells (offerSaid (r .answer)) (now (packet .entry))) ⌝ }
 {
     reorder_offer::open(store, packet, threshold, sum_word)
@@ -32,7 +31,7 @@ pub fn open_or_start(
     sum_word: u32,
 ) -> Offered
     ensures { λ r. ⌜ Opens session (now (store .entry)) (now (packet .entry)) threshold «sum_word» (offerSaid (r .answer)) (r .session) (now (store .exit))
-        × IsStart session (now (store .entry)) (now (packet .entry)) threshold «sum_word»
+        × IsStart (openOf session (now (store .entry)) (now (packet .entry)) threshold «sum_word») (now (packet .entry))
         (r .session) (now (store .exit)) (offerTells (offerSaid (r .answer)) (now (packet .entry))) ⌝ }
 {
     reorder_offer::open_or(session, store, packet, threshold, sum_word)

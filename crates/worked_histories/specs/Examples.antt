@@ -8,9 +8,9 @@ use lib.ListN.{replicate}
 use Rattle.octets.specs.Refusal.{refusalIn}
 use Rattle.reorder_session.specs.Calls.{offerOf, serveOf, drainOf, passOf}
 use Rattle.reorder_offer.specs.Opening.{noSession}
-use Rattle.reorder_histories.specs.History.{Call, offer, serve, drain, pass, took, gave, called-missing}
+use Rattle.reorder_histories.specs.History.{Call, offer, serve, drain, pass, took, gave, called-missing, Served, CalledMissing}
 use Rattle.reorder_histories.specs.Histories.{State, step, Consumer, atStart, atEnd}
-use Rattle.reorder_histories.specs.Histories.{OpenedAlike, Served, CalledMissing, StillHeld}
+use Rattle.reorder_histories.specs.Histories.{OpenedAlike, StillHeld}
 use Rattle.worked.specs.Cases.{timedPacket}
 
 -- the packet of position p where the opening packet has count 0 and time 0: its own count is p and its time 14 p

@@ -5,7 +5,7 @@ use mathlib.Core.Bool.{true, not}
 use native.Mathlib.Omega.{arith}
 use denote.Ref.{now}
 use Rattle.octets.specs.Refusal.{refusalIn}
-use Rattle.octets.proofs.Ladder.{pass, fail, pass-eq, fail-eq, answer-said}
+use Rattle.octets.proofs.Ladder.{then-pass, then-fail, pass-eq, fail-eq, answer-said}
 use Rattle.packet_check.specs.Refusal.{readRefusal}
 use Rattle.packet.specs.declared.PacketAnswer.{PacketAnswer}
 use Rattle.packet.specs.Fields.{fieldsOf}
@@ -13,33 +13,34 @@ use Rattle.packet.specs.Read.{packetSaid}
 use Rattle.window.specs.Window.{heldAt}
 use Rattle.reorder_rules.specs.Offer.{admitted, offerRefusal, offerDue}
 use Rattle.reorder_rules.proofs.Said.{refusing-now, refusing-next}
-use Rattle.reorder_session.specs.Session.{broken, single}
+use Rattle.reorder_session.specs.Session.{single}
 use Rattle.reorder_session.specs.Calls.{positionOf}
+use Rattle.reorder_session.proofs.Whole.{fit, unfit}
 use Rattle.reorder_admission.proofs.Handed.{handed-on}
 use borrow.Author.Needs.{needs}
 use Rattle.reorder_admission.proofs.offer_answer.Statement.{statement}
 use Rattle.reorder_admission.proofs.offer_answer.Tie as tie
 
 -- the session isn't broken, and the store has its size: the ladder goes on with the reader's number
-whole : (c : tie.Else1) → not (broken (c .before .before .before .args .session)) ≡ true
-whole c = ap not (sym (c .before .is-broken .ensures) ∙ c .if1 .left)
+fits : (c : tie.Else1) → single .unfit (c .before .before .before .args .session) ≡ 0
+fits c = fit _ (sym (c .before .is-broken .ensures) ∙ c .if1 .left)
 
 ready : (c : tie.Else2) (r : ℕ) → let k = c .before .before .before .before in
     r ≡ readRefusal (now (k .args .packet)) (k .args .session .«sum_word»)
     → r ≡ offerRefusal single (k .args .session) (k .args .store-size) (now (k .args .packet))
 unfolding offerRefusal
-ready c r e = pass _ 30 _ r (whole (c .before)) (pass-eq _ _ 27 _ r (c .if2 .left) e)
+ready c r e = then-pass _ _ r (fits (c .before)) (pass-eq _ _ 27 _ r (c .if2 .left) e)
 
 is-broken-requires : tie.Need-is-broken-requires
 is-broken-requires c κs = search needs
 
 returns : tie.Need-returns
 unfolding offerRefusal offerDue
-returns c = refusing-now 30 _ _ (fail _ 30 _ (ap not (sym (c .before .is-broken .ensures) ∙ c .if1 .taken))) (λ q. omega arith)
+returns c = refusing-now 30 _ _ (then-fail _ _ 30 (unfit _ (sym (c .before .is-broken .ensures) ∙ c .if1 .taken)) (λ q. omega arith)) (λ q. omega arith)
 
 returns-2 : tie.Need-returns-2
 unfolding offerRefusal offerDue
-returns-2 c = refusing-now 27 _ _ (pass _ 30 _ 27 (whole (c .before)) (fail-eq _ _ 27 _ (c .if2 .taken))) (λ q. omega arith)
+returns-2 c = refusing-now 27 _ _ (then-pass _ _ 27 (fits (c .before)) (fail-eq _ _ 27 _ (c .if2 .taken))) (λ q. omega arith)
 
 cast-read-answer : tie.Need-cast-read-answer
 cast-read-answer c = search needs

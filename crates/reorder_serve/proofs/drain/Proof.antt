@@ -14,7 +14,7 @@ use Rattle.reorder_rules.proofs.Ready.{drain-ready}
 use Rattle.reorder_session.specs.declared.Session.{Session}
 use Rattle.reorder_session.specs.Session.{single}
 use Rattle.reorder_session.specs.Calls.{turns, drainRefusal, Drains}
-use Rattle.reorder_session.proofs.Whole.{whole}
+use Rattle.reorder_session.proofs.Whole.{whole-fit}
 use Rattle.reorder_serve.proofs.Reading.{reported}
 use borrow.Author.Needs.{needs}
 use Rattle.reorder_serve.proofs.drain.Statement.{statement}
@@ -38,7 +38,7 @@ returns c =
 run-requires : tie.Need-run-requires
 run-requires c κs =
     let r = drain-ready single _ _ _ _ (passes (c .before)) in
-    (whole _ (r .unbroken) .next-most, (r .store, r .most))
+    (whole-fit _ (r .fit) .next-most, (r .store, r .most))
 
 same-length : tie.Need-same-length
 same-length c = search needs

@@ -9,7 +9,7 @@ use Rattle.reorder_rules.proofs.Said.{stays, leaves, comes-by}
 use Rattle.reorder_rules.proofs.Ready.{ServeReady, serve-ready}
 use Rattle.reorder_session.specs.Session.{single}
 use Rattle.reorder_session.specs.Calls.{turn, serveRefusal}
-use Rattle.reorder_session.proofs.Whole.{whole}
+use Rattle.reorder_session.proofs.Whole.{whole-fit}
 use borrow.Author.Needs.{needs}
 use Rattle.reorder_serve.proofs.serve.Statement.{statement}
 use Rattle.reorder_serve.proofs.serve.Tie as tie
@@ -32,7 +32,7 @@ returns c =
 step-requires : tie.Need-step-requires
 step-requires c κs =
     let r = ready (c .before) in
-    (omega (arith, whole _ (r .unbroken) .next-most), r .store)
+    (omega (arith, whole-fit _ (r .fit) .next-most), r .store)
 
 same-length : tie.Need-same-length
 same-length c = search needs

@@ -1,41 +1,42 @@
 -- The rungs of the ladder, in its order.
-use mathlib.Core.Path.{_≡_, refl, sym, ap, _∙_}
-use mathlib.Core.Bool.{true, not}
-use Rattle.octets.proofs.Ladder.{pass, fail, pass-eq, fail-eq, pass-le, fail-le}
-use Rattle.reorder_session.specs.Session.{broken}
+use mathlib.Core.Path.{_≡_, refl, sym, _∙_}
+use native.Mathlib.Omega.{arith}
+use Rattle.octets.proofs.Ladder.{then-pass, then-fail, pass-eq, fail-eq, pass-le, fail-le}
+use Rattle.reorder_session.specs.Session.{single}
+use Rattle.reorder_session.proofs.Whole.{fit, unfit}
 use Rattle.reorder_rules.specs.Serve.{drainRefusal}
 use borrow.Author.Needs.{needs}
 use Rattle.reorder_turn.proofs.drain_refusal.Statement.{statement}
 use Rattle.reorder_turn.proofs.drain_refusal.Tie as tie
 
-whole : (c : tie.Else1) → not (broken (c .before .before .args .session)) ≡ true
-whole c = ap not (sym (c .before .is-broken .ensures) ∙ c .if1 .left)
+fits : (c : tie.Else1) → single .unfit (c .before .before .args .session) ≡ 0
+fits c = fit _ (sym (c .before .is-broken .ensures) ∙ c .if1 .left)
 
 is-broken-requires : tie.Need-is-broken-requires
 is-broken-requires c κs = search needs
 
 returns : tie.Need-returns
 unfolding drainRefusal
-returns c = fail _ 30 _ (ap not (sym (c .before .is-broken .ensures) ∙ c .if1 .taken))
+returns c = then-fail _ _ 30 (unfit _ (sym (c .before .is-broken .ensures) ∙ c .if1 .taken)) (λ q. omega arith)
 
 returns-2 : tie.Need-returns-2
 unfolding drainRefusal
-returns-2 c = pass _ 30 _ 27 (whole (c .before)) (fail-eq _ _ 27 _ (c .if2 .taken))
+returns-2 c = then-pass _ _ 27 (fits (c .before)) (fail-eq _ _ 27 _ (c .if2 .taken))
 
 returns-3 : tie.Need-returns-3
 unfolding drainRefusal
-returns-3 c = pass _ 30 _ 29 (whole (c .before .before)) (pass-eq _ _ 27 _ 29 (c .before .if2 .left) (fail-eq _ _ 29 _ (c .if3 .taken)))
+returns-3 c = then-pass _ _ 29 (fits (c .before .before)) (pass-eq _ _ 27 _ 29 (c .before .if2 .left) (fail-eq _ _ 29 _ (c .if3 .taken)))
 
 returns-4 : tie.Need-returns-4
 unfolding drainRefusal
 returns-4 c =
-    pass _ 30 _ 31 (whole (c .before .before .before))
+    then-pass _ _ 31 (fits (c .before .before .before))
     (pass-eq _ _ 27 _ 31 (c .before .before .if2 .left) (pass-eq _ _ 29 _ 31 (c .before .if3 .left) (fail-le _ _ 31 _ (c .if4 .taken))))
 
 returns-5 : tie.Need-returns-5
 unfolding drainRefusal
 returns-5 c =
-    pass _ 30 _ 0 (whole (c .before .before .before))
+    then-pass _ _ 0 (fits (c .before .before .before))
     (pass-eq _ _ 27 _ 0 (c .before .before .if2 .left) (pass-eq _ _ 29 _ 0 (c .before .if3 .left) (pass-le _ _ 31 _ 0 (c .if4 .left) refl)))
 
 pub drain-refusal-spec : {M : Type 1} → statement M

@@ -1,34 +1,35 @@
 -- The rungs of the ladder, in its order.
-use mathlib.Core.Path.{_≡_, refl, sym, ap, _∙_}
-use mathlib.Core.Bool.{true, not}
-use Rattle.octets.proofs.Ladder.{pass, fail, pass-eq, fail-eq, pass-le, fail-le}
-use Rattle.reorder_session.specs.Session.{broken}
+use mathlib.Core.Path.{_≡_, refl, sym, _∙_}
+use native.Mathlib.Omega.{arith}
+use Rattle.octets.proofs.Ladder.{then-pass, then-fail, pass-eq, fail-eq, pass-le, fail-le}
+use Rattle.reorder_session.specs.Session.{single}
+use Rattle.reorder_session.proofs.Whole.{fit, unfit}
 use Rattle.reorder_rules.specs.Serve.{serveRefusal}
 use borrow.Author.Needs.{needs}
 use Rattle.reorder_turn.proofs.serve_refusal.Statement.{statement}
 use Rattle.reorder_turn.proofs.serve_refusal.Tie as tie
 
-whole : (c : tie.Else1) → not (broken (c .before .before .args .session)) ≡ true
-whole c = ap not (sym (c .before .is-broken .ensures) ∙ c .if1 .left)
+fits : (c : tie.Else1) → single .unfit (c .before .before .args .session) ≡ 0
+fits c = fit _ (sym (c .before .is-broken .ensures) ∙ c .if1 .left)
 
 is-broken-requires : tie.Need-is-broken-requires
 is-broken-requires c κs = search needs
 
 returns : tie.Need-returns
 unfolding serveRefusal
-returns c = fail _ 30 _ (ap not (sym (c .before .is-broken .ensures) ∙ c .if1 .taken))
+returns c = then-fail _ _ 30 (unfit _ (sym (c .before .is-broken .ensures) ∙ c .if1 .taken)) (λ q. omega arith)
 
 returns-2 : tie.Need-returns-2
 unfolding serveRefusal
-returns-2 c = pass _ 30 _ 27 (whole (c .before)) (fail-eq _ _ 27 _ (c .if2 .taken))
+returns-2 c = then-pass _ _ 27 (fits (c .before)) (fail-eq _ _ 27 _ (c .if2 .taken))
 
 returns-3 : tie.Need-returns-3
 unfolding serveRefusal
-returns-3 c = pass _ 30 _ 29 (whole (c .before .before)) (pass-eq _ _ 27 _ 29 (c .before .if2 .left) (fail-le _ _ 29 _ (c .if3 .taken)))
+returns-3 c = then-pass _ _ 29 (fits (c .before .before)) (pass-eq _ _ 27 _ 29 (c .before .if2 .left) (fail-le _ _ 29 _ (c .if3 .taken)))
 
 returns-4 : tie.Need-returns-4
 unfolding serveRefusal
-returns-4 c = pass _ 30 _ 0 (whole (c .before .before)) (pass-eq _ _ 27 _ 0 (c .before .if2 .left) (pass-le _ _ 29 _ 0 (c .if3 .left) refl))
+returns-4 c = then-pass _ _ 0 (fits (c .before .before)) (pass-eq _ _ 27 _ 0 (c .before .if2 .left) (pass-le _ _ 29 _ 0 (c .if3 .left) refl))
 
 pub serve-refusal-spec : {M : Type 1} → statement M
 serve-refusal-spec = tie.close (tie.spec is-broken-requires returns returns-2 returns-3 returns-4)

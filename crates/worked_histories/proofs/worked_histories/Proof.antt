@@ -94,7 +94,7 @@ abbrev absentMoreEvents : List Event
 absentMoreEvents = took 0 (packetAt 0) ∷ took 2 (packetAt 2) ∷ gave 0 (packetAt 0) ∷ took 5 (packetAt 5) ∷ called-missing 1 ∷ gave 2 (packetAt 2) ∷ []
 
 late-less : Comes false (begun lateLess) (lateLess .calls) (0 ∷ 29 ∷ 0 ∷ 0 ∷ 1 ∷ 23 ∷ 0 ∷ []) (session 1 3 0) lateLessEvents
-unfolding refuse_unless_else_ say heldAt someAmong someHeld pastEnd broken Turn-rules.turn Turn-rules.turns Turn-rules.turnedAll Serve-rules.serveRefusal Serve-rules.drainRefusal
+unfolding refuse_unless_else_ _then_ say heldAt someAmong someHeld pastEnd broken Turn-rules.turn Turn-rules.turns Turn-rules.turnedAll Serve-rules.serveRefusal Serve-rules.drainRefusal
 late-less =
     then-serve (open-stands lateLess (size 0) (says .opens-1) (says .session-opened 1)) 1080 0 (answered (packet 0)) refl (λ a.
     then-serve a 10 0 (refused 29) refl (λ b.
@@ -106,7 +106,7 @@ late-less =
     no-more g refl)))))))
 
 late-more : Comes false (begun lateMore) (lateMore .calls) (26 ∷ 0 ∷ 0 ∷ 31 ∷ 1 ∷ 0 ∷ 0 ∷ []) (session 2 3 0) lateMoreEvents
-unfolding refuse_unless_else_ say heldAt someAmong someHeld pastEnd broken Turn-rules.turn Turn-rules.turns Turn-rules.turnedAll Serve-rules.serveRefusal Serve-rules.drainRefusal Pass-rules.passRefusal
+unfolding refuse_unless_else_ _then_ say heldAt someAmong someHeld pastEnd broken Turn-rules.turn Turn-rules.turns Turn-rules.turnedAll Serve-rules.serveRefusal Serve-rules.drainRefusal Pass-rules.passRefusal
 late-more =
     then-no-pass (open-stands lateMore (size 255) (says .opens-2) (says .session-opened 2)) 26 refl (λ a.
     then-take a tt 2 (says .offer-2-to-2) (λ b.
@@ -118,7 +118,7 @@ late-more =
     no-more g refl)))))))
 
 absent-less : Comes false (begun absentLess) (absentLess .calls) (0 ∷ 0 ∷ 0 ∷ 0 ∷ 0 ∷ 0 ∷ []) (session 1 6 0) absentLessEvents
-unfolding refuse_unless_else_ say heldAt someAmong someHeld pastEnd broken Turn-rules.turn Turn-rules.turns Turn-rules.turnedAll Serve-rules.serveRefusal Serve-rules.drainRefusal
+unfolding refuse_unless_else_ _then_ say heldAt someAmong someHeld pastEnd broken Turn-rules.turn Turn-rules.turns Turn-rules.turnedAll Serve-rules.serveRefusal Serve-rules.drainRefusal
 absent-less =
     then-serve (open-stands absentLess (size 0) (says .opens-1) (says .session-opened 1)) 1080 0 (answered (packet 0)) refl (λ a.
     then-take a tt 2 (says .offer-2-to-1) (λ b.
@@ -129,7 +129,7 @@ absent-less =
     no-more f refl))))))
 
 absent-more : Comes false (begun absentMore) (absentMore .calls) (0 ∷ 0 ∷ 0 ∷ 0 ∷ 0 ∷ 0 ∷ []) (session 3 3 32) absentMoreEvents
-unfolding refuse_unless_else_ say heldAt someAmong someHeld pastEnd broken Turn-rules.turn Turn-rules.turns Turn-rules.turnedAll Serve-rules.serveRefusal Serve-rules.drainRefusal
+unfolding refuse_unless_else_ _then_ say heldAt someAmong someHeld pastEnd broken Turn-rules.turn Turn-rules.turns Turn-rules.turnedAll Serve-rules.serveRefusal Serve-rules.drainRefusal
 absent-more =
     then-take (open-stands absentMore (size 255) (says .opens-3) (says .session-opened 3)) tt 2 (says .offer-2-to-3) (λ a.
     then-drain a 34560 0 32 (answered (packet 0 ∷ [])) refl (λ b.
