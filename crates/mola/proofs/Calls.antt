@@ -1,5 +1,5 @@
 -- The five calls, as the walk over a lent session takes them (`lent_record`, `LentWalk.antt`).
-use mathlib.Core.Path.{_≡_, refl}
+use mathlib.Core.Path.{refl}
 use mathlib.Core.List.{List, [], _∷_}
 use mir.Syntax.{w8, w32}
 use Rattle.reorder_session.proofs.Lent.{session}
@@ -9,9 +9,7 @@ use Rattle.lent_record.proofs.Promises.{Promise}
 use Rattle.reorder_lent.proofs.Calls.{open-takes, offer-takes, serve-takes, pass-takes}
 use Rattle.reorder_c.specs.declared.Answered.{Answered}
 use Rattle.reorder_c.specs.declared.Counted.{Counted}
-use Rattle.reorder_session.specs.Calls.{Offers, Serves, Drains, Passes}
-use Rattle.reorder_offer.specs.Opening.{Opens}
-use Rattle.reorder_c.specs.Answers.{heldAnswer, servedAnswer, passedAnswer, positionSaid, turnSaid, turnsSaid, Tells}
+use Rattle.reorder_c.specs.Answers.{OpensAs, OffersAs, ServesAs, DrainsAs, PassesAs}
 use Rattle.reorder_c.proofs.Answered as Answered-type
 use Rattle.reorder_c.proofs.Answer as Answer-type
 use Rattle.reorder_c.proofs.Answer.Laws as Answer-laws
@@ -34,17 +32,16 @@ abbrev pub described-takes : List Param
 described-takes = writes w8 ∷ reads w8 ∷ number w32 ∷ writes-array w32 64 ∷ []
 
 abbrev pub open-promise : Promise answered open-takes
-open-promise s i y t z = Opens s (i .0) (i .1 .0) (i .1 .1 .0) (i .1 .1 .1 .0) (positionSaid y) t (z .0) × (y ≡ heldAnswer (positionSaid y))
+open-promise s i y t z = OpensAs s (i .0) (i .1 .0) (i .1 .1 .0) (i .1 .1 .1 .0) y t (z .0)
 
 abbrev pub offer-promise : Promise answered offer-takes
-offer-promise s i y t z = Offers s (i .0) (i .1 .0) (positionSaid y) t (z .0) × (y ≡ heldAnswer (positionSaid y))
+offer-promise s i y t z = OffersAs s (i .0) (i .1 .0) y t (z .0)
 
 abbrev pub serve-promise : Promise answered serve-takes
-serve-promise s i y t z = Serves s (i .0) (i .1 .0) (turnSaid y) t (z .0) × (y ≡ servedAnswer (turnSaid y))
+serve-promise s i y t z = ServesAs s (i .0) (i .1 .0) y t (z .0)
 
 abbrev pub drain-promise : Promise counted described-takes
-drain-promise s i y t z =
-    Drains s (i .0) (i .1 .0) (i .1 .1 .0) (turnsSaid y (z .1 .0)) t (z .0) × Tells y (i .1 .1 .1 .0) (z .1 .0) (turnsSaid y (z .1 .0))
+drain-promise s i y t z = DrainsAs s (i .0) (i .1 .0) (i .1 .1 .0) (i .1 .1 .1 .0) y t (z .0) (z .1 .0)
 
 abbrev pub pass-promise : Promise answered pass-takes
-pass-promise s i y t z = Passes s (positionSaid y) t × (y ≡ passedAnswer (positionSaid y))
+pass-promise s i y t z = PassesAs s y t

@@ -15,9 +15,7 @@ ghost use Rattle.packet_check.specs.Refusal.{readRefusal};
 ghost use Rattle.packet.specs.Read.{readDue};
 ghost use Rattle.packet_writer.specs.Write.{writeRefusal, writeBytes};
 ghost use Rattle.pedr_check.specs.Refusal.{recordRefusal};
-ghost use Rattle.reorder_session.specs.Calls.{Offers, Serves, Drains, Passes};
-ghost use Rattle.reorder_offer.specs.Opening.{Opens};
-ghost use Rattle.reorder_c.specs.Answers.{heldAnswer, servedAnswer, passedAnswer, positionSaid, turnSaid, turnsSaid, Tells};
+ghost use Rattle.reorder_c.specs.Answers.{OpensAs, OffersAs, ServesAs, DrainsAs, PassesAs};
 ghost use Rattle.mola.specs.Read.{noFields, asRead};
 
 // A packet's refusal number, or 0, and its fields, which are all zeros on a refusal.
@@ -126,8 +124,8 @@ pub extern "C" fn mola_open(
     threshold: u32,
     sum_word: u32,
 ) -> Answer
-    ensures { λ r. ⌜ Opens (now (session .entry)) (now (store .entry)) (now (packet .entry)) threshold «sum_word»
-        (positionSaid r) (now (session .exit)) (now (store .exit)) × (r ≡ heldAnswer (positionSaid r)) ⌝ }
+    ensures { λ r. ⌜ OpensAs (now (session .entry)) (now (store .entry)) (now (packet .entry)) threshold «sum_word»
+        r (now (session .exit)) (now (store .exit)) ⌝ }
 {
     let opened = reorder_c::open(*session, store, packet, threshold, sum_word);
     *session = opened.session;
@@ -137,8 +135,7 @@ pub extern "C" fn mola_open(
 // Holds the packet at its position, in the position's 1,080 bytes of the store.
 #[no_mangle]
 pub extern "C" fn mola_offer(session: &mut Session, store: &mut [u8], packet: &[u8]) -> Answer
-    ensures { λ r. ⌜ Offers (now (session .entry)) (now (store .entry)) (now (packet .entry)) (positionSaid r) (now (session .exit)) (now (store .exit))
-        × (r ≡ heldAnswer (positionSaid r)) ⌝ }
+    ensures { λ r. ⌜ OffersAs (now (session .entry)) (now (store .entry)) (now (packet .entry)) r (now (session .exit)) (now (store .exit)) ⌝ }
 {
     let offered = reorder_c::offer(*session, store, packet);
     *session = offered.session;
@@ -148,8 +145,7 @@ pub extern "C" fn mola_offer(session: &mut Session, store: &mut [u8], packet: &[
 // Serves the next position.
 #[no_mangle]
 pub extern "C" fn mola_serve(session: &mut Session, out: &mut [u8], store: &[u8]) -> Answer
-    ensures { λ r. ⌜ Serves (now (session .entry)) (now (out .entry)) (now (store .entry)) (turnSaid r) (now (session .exit)) (now (out .exit))
-        × (r ≡ servedAnswer (turnSaid r)) ⌝ }
+    ensures { λ r. ⌜ ServesAs (now (session .entry)) (now (out .entry)) (now (store .entry)) r (now (session .exit)) (now (out .exit)) ⌝ }
 {
     let served = reorder_c::serve(*session, out, store);
     *session = served.session;
@@ -165,9 +161,8 @@ pub extern "C" fn mola_drain(
     budget: u32,
     descriptions: &mut [u32; 64],
 ) -> Count
-    ensures { λ r. ⌜ Drains (now (session .entry)) (now (out .entry)) (now (store .entry)) budget
-        (turnsSaid r (now (descriptions .exit))) (now (session .exit)) (now (out .exit))
-        × Tells r (now (descriptions .entry)) (now (descriptions .exit)) (turnsSaid r (now (descriptions .exit))) ⌝ }
+    ensures { λ r. ⌜ DrainsAs (now (session .entry)) (now (out .entry)) (now (store .entry)) budget (now (descriptions .entry))
+        r (now (session .exit)) (now (out .exit)) (now (descriptions .exit)) ⌝ }
 {
     let drained = reorder_c::drain(*session, out, store, budget, descriptions);
     *session = drained.session;
@@ -177,7 +172,7 @@ pub extern "C" fn mola_drain(
 // Passes next over, by hand.
 #[no_mangle]
 pub extern "C" fn mola_pass(session: &mut Session) -> Answer
-    ensures { λ r. ⌜ Passes (now (session .entry)) (positionSaid r) (now (session .exit)) × (r ≡ passedAnswer (positionSaid r)) ⌝ }
+    ensures { λ r. ⌜ PassesAs (now (session .entry)) r (now (session .exit)) ⌝ }
 {
     let passed = reorder_c::pass(*session);
     *session = passed.session;

@@ -8,12 +8,10 @@ use reorder_turn::Description;
 use reorder_turn::ServeAnswer;
 ghost use mathlib.Core.Path.{_≡_};
 ghost use Rattle.reorder_admission.specs.Answer.{offerSaid};
-ghost use Rattle.reorder_session.specs.Calls.{Offers, Serves, Drains, Passes};
-ghost use Rattle.reorder_offer.specs.Opening.{Opens};
 ghost use Rattle.reorder_turn.specs.Answer.{serveSaid};
 ghost use Rattle.reorder_serve.specs.Report.{drainSaid};
 ghost use Rattle.reorder_pass.specs.Answer.{passSaid};
-ghost use Rattle.reorder_c.specs.Answers.{heldAnswer, servedAnswer, passedAnswer, drainedCount, positionSaid, turnSaid, turnsSaid, Tells};
+ghost use Rattle.reorder_c.specs.Answers.{heldAnswer, servedAnswer, passedAnswer, drainedCount, OpensAs, OffersAs, ServesAs, DrainsAs, PassesAs};
 
 // A refusal's number and zeros; or 0, a kind (0 Waiting, 1 a packet, 2 a missing position) and a position.
 #[repr(C)]
@@ -121,9 +119,7 @@ pub fn open(
     threshold: u32,
     sum_word: u32,
 ) -> Answered
-    ensures { λ r. ⌜ Opens session (now (store .entry)) (now (packet .entry)) threshold «sum_word»
-        (positionSaid (r .answer)) (r .session) (now (store .exit))
-        × (r .answer ≡ heldAnswer (positionSaid (r .answer))) ⌝ }
+    ensures { λ r. ⌜ OpensAs session (now (store .entry)) (now (packet .entry)) threshold «sum_word» (r .answer) (r .session) (now (store .exit)) ⌝ }
 {
     let opened = reorder_offer::open_or(session, store, packet, threshold, sum_word);
     let answer = opened.answer;
@@ -136,8 +132,7 @@ pub fn open(
 
 // Holds the packet at its position, in the position's 1,080 bytes of the store.
 pub fn offer(session: Session, store: &mut [u8], packet: &[u8]) -> Answered
-    ensures { λ r. ⌜ Offers session (now (store .entry)) (now (packet .entry)) (positionSaid (r .answer)) (r .session) (now (store .exit))
-        × (r .answer ≡ heldAnswer (positionSaid (r .answer))) ⌝ }
+    ensures { λ r. ⌜ OffersAs session (now (store .entry)) (now (packet .entry)) (r .answer) (r .session) (now (store .exit)) ⌝ }
 {
     let offered = reorder_offer::offer(session, store, packet);
     let answer = offered.answer;
@@ -150,8 +145,7 @@ pub fn offer(session: Session, store: &mut [u8], packet: &[u8]) -> Answered
 
 // Serves the next position. A serve, a drain and a pass change the window alone, so that only the window is taken from the session returned.
 pub fn serve(session: Session, out: &mut [u8], store: &[u8]) -> Answered
-    ensures { λ r. ⌜ Serves session (now (out .entry)) (now (store .entry)) (turnSaid (r .answer)) (r .session) (now (out .exit))
-        × (r .answer ≡ servedAnswer (turnSaid (r .answer))) ⌝ }
+    ensures { λ r. ⌜ ServesAs session (now (out .entry)) (now (store .entry)) (r .answer) (r .session) (now (out .exit)) ⌝ }
 {
     let served = reorder_serve::serve(session, out, store);
     let answer = served.answer;
@@ -170,9 +164,8 @@ fn drain_turns(
     budget: u32,
     descriptions: &mut [u32; 64],
 ) -> Counted
-    ensures { λ r. ⌜ Drains session (now (out .entry)) (now (store .entry)) budget
-        (turnsSaid (r .answer) (now (descriptions .exit))) (r .session) (now (out .exit))
-        × Tells (r .answer) (now (descriptions .entry)) (now (descriptions .exit)) (turnsSaid (r .answer) (now (descriptions .exit))) ⌝ }
+    ensures { λ r. ⌜ DrainsAs session (now (out .entry)) (now (store .entry)) budget (now (descriptions .entry))
+        (r .answer) (r .session) (now (out .exit)) (now (descriptions .exit)) ⌝ }
 {
     let drained = reorder_serve::drain(session, out, store, budget);
     let returned = drained.session;
@@ -202,9 +195,8 @@ pub fn drain(
     budget: u32,
     descriptions: &mut [u32; 64],
 ) -> Counted
-    ensures { λ r. ⌜ Drains session (now (out .entry)) (now (store .entry)) budget
-        (turnsSaid (r .answer) (now (descriptions .exit))) (r .session) (now (out .exit))
-        × Tells (r .answer) (now (descriptions .entry)) (now (descriptions .exit)) (turnsSaid (r .answer) (now (descriptions .exit))) ⌝ }
+    ensures { λ r. ⌜ DrainsAs session (now (out .entry)) (now (store .entry)) budget (now (descriptions .entry))
+        (r .answer) (r .session) (now (out .exit)) (now (descriptions .exit)) ⌝ }
 {
     let n = reorder_turn::drain_refusal(session, store.len(), out.len(), budget);
     if (n == 0) & reorder_turn::waits(session) {
@@ -226,7 +218,7 @@ pub fn drain(
 
 // Passes next over, by hand.
 pub fn pass(session: Session) -> Answered
-    ensures { λ r. ⌜ Passes session (positionSaid (r .answer)) (r .session) × (r .answer ≡ passedAnswer (positionSaid (r .answer))) ⌝ }
+    ensures { λ r. ⌜ PassesAs session (r .answer) (r .session) ⌝ }
 {
     let passed = reorder_pass::pass(session);
     let answer = passed.answer;

@@ -2,12 +2,10 @@
 use reorder_c::Answered;
 use reorder_c::Counted;
 use reorder_session::Session;
-ghost use mathlib.Core.Path.{_≡_};
 ghost use Rattle.reorder_session.specs.Session.{single};
-ghost use Rattle.reorder_session.specs.Calls.{Offers, Serves, Drains, Passes};
-ghost use Rattle.reorder_offer.specs.Opening.{openOf, Opens};
+ghost use Rattle.reorder_offer.specs.Opening.{openOf};
 ghost use Rattle.reorder_histories.specs.History.{offer, serve, drain, offerTells, serveTells, drainTells, passTells, IsStart, IsStep, IsPassStep};
-ghost use Rattle.reorder_c.specs.Answers.{heldAnswer, servedAnswer, passedAnswer, positionSaid, turnSaid, turnsSaid, Tells};
+ghost use Rattle.reorder_c.specs.Answers.{positionSaid, turnSaid, turnsSaid, OpensAs, OffersAs, ServesAs, DrainsAs, PassesAs};
 
 // Each of these makes one call. It promises what the call does, and that the call is the start, or a step, of a history.
 pub fn open_start(
@@ -17,9 +15,7 @@ pub fn open_start(
     threshold: u32,
     sum_word: u32,
 ) -> Answered
-    ensures { λ r. ⌜ (Opens session (now (store .entry)) (now (packet .entry)) threshold «sum_word»
-        (positionSaid (r .answer)) (r .session) (now (store .exit))
-        × (r .answer ≡ heldAnswer (positionSaid (r .answer))))
+    ensures { λ r. ⌜ OpensAs session (now (store .entry)) (now (packet .entry)) threshold «sum_word» (r .answer) (r .session) (now (store .exit))
         × IsStart (openOf session (now (store .entry)) (now (packet .entry)) threshold «sum_word») (now (packet .entry))
         (r .session) (now (store .exit)) (offerTells (positionSaid (r .answer)) (now (packet .entry))) ⌝ }
 {
@@ -27,8 +23,7 @@ pub fn open_start(
 }
 
 pub fn offer_step(session: Session, store: &mut [u8], packet: &[u8]) -> Answered
-    ensures { λ r. ⌜ (Offers session (now (store .entry)) (now (packet .entry)) (positionSaid (r .answer)) (r .session) (now (store .exit))
-        × (r .answer ≡ heldAnswer (positionSaid (r .answer))))
+    ensures { λ r. ⌜ OffersAs session (now (store .entry)) (now (packet .entry)) (r .answer) (r .session) (now (store .exit))
         × IsStep single session (now (store .entry)) (offer (now (packet .entry)))
         (r .session) (now (store .exit)) (offerTells (positionSaid (r .answer)) (now (packet .entry))) ⌝ }
 {
@@ -36,8 +31,7 @@ pub fn offer_step(session: Session, store: &mut [u8], packet: &[u8]) -> Answered
 }
 
 pub fn serve_step(session: Session, out: &mut [u8], store: &[u8]) -> Answered
-    ensures { λ r. ⌜ (Serves session (now (out .entry)) (now (store .entry)) (turnSaid (r .answer)) (r .session) (now (out .exit))
-        × (r .answer ≡ servedAnswer (turnSaid (r .answer))))
+    ensures { λ r. ⌜ ServesAs session (now (out .entry)) (now (store .entry)) (r .answer) (r .session) (now (out .exit))
         × IsStep single session (now (store .entry)) (serve (now (out .entry)))
         (r .session) (now (store .entry)) (serveTells (turnSaid (r .answer)) (now (out .exit))) ⌝ }
 {
@@ -51,9 +45,8 @@ pub fn drain_step(
     budget: u32,
     descriptions: &mut [u32; 64],
 ) -> Counted
-    ensures { λ r. ⌜ (Drains session (now (out .entry)) (now (store .entry)) budget
-        (turnsSaid (r .answer) (now (descriptions .exit))) (r .session) (now (out .exit))
-        × Tells (r .answer) (now (descriptions .entry)) (now (descriptions .exit)) (turnsSaid (r .answer) (now (descriptions .exit))))
+    ensures { λ r. ⌜ DrainsAs session (now (out .entry)) (now (store .entry)) budget (now (descriptions .entry))
+        (r .answer) (r .session) (now (out .exit)) (now (descriptions .exit))
         × IsStep single session (now (store .entry)) (drain (now (out .entry)) budget)
         (r .session) (now (store .entry)) (drainTells (turnsSaid (r .answer) (now (descriptions .exit))) (now (out .exit))) ⌝ }
 {
@@ -61,7 +54,7 @@ pub fn drain_step(
 }
 
 pub fn pass_step(session: Session) -> Answered
-    ensures { λ r. ⌜ (Passes session (positionSaid (r .answer)) (r .session) × (r .answer ≡ passedAnswer (positionSaid (r .answer))))
+    ensures { λ r. ⌜ PassesAs session (r .answer) (r .session)
         × IsPassStep single session (r .session) (passTells (positionSaid (r .answer))) ⌝ }
 {
     reorder_c::pass(session)

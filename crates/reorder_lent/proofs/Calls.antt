@@ -6,7 +6,7 @@ use Rattle.lent_record.proofs.Params.{Param, writes, reads, number}
 use Rattle.lent_record.proofs.Result.{Result, result}
 use Rattle.lent_record.proofs.Promises.{Promise}
 use Rattle.reorder_session.proofs.Lent.{session}
-use Rattle.reorder_session.specs.Calls.{Offers, Serves, Drains, Passes}
+use Rattle.reorder_session.specs.Calls.{Offers, Serves, Passes}
 use Rattle.reorder_admission.specs.Answer.{offerSaid}
 use Rattle.reorder_admission.proofs.OfferAnswer as OfferAnswer-type
 use Rattle.reorder_admission.proofs.OfferAnswer.Laws as OfferAnswer-laws
@@ -18,7 +18,7 @@ use Rattle.reorder_turn.proofs.ServeAnswer as ServeAnswer-type
 use Rattle.reorder_turn.proofs.ServeAnswer.Laws as ServeAnswer-laws
 use Rattle.reorder_serve.specs.declared.Served.{Served}
 use Rattle.reorder_serve.specs.declared.Drained.{Drained}
-use Rattle.reorder_serve.specs.Report.{reportSaid, Reports}
+use Rattle.reorder_serve.specs.Report.{DrainsReport}
 use Rattle.reorder_serve.proofs.Served as Served-type
 use Rattle.reorder_serve.proofs.Drained as Drained-type
 use Rattle.reorder_serve.proofs.Report as Report-type
@@ -75,7 +75,7 @@ abbrev pub serve-promise : Promise served serve-takes
 serve-promise s i y t z = Serves s (i .0) (i .1 .0) (serveSaid y) t (z .0)
 
 abbrev pub drain-promise : Promise drained drain-takes
-drain-promise s i y t z = Drains s (i .0) (i .1 .0) (i .1 .1 .0) (reportSaid y) t (z .0) × Reports y (reportSaid y)
+drain-promise s i y t z = DrainsReport s (i .0) (i .1 .0) (i .1 .1 .0) y t (z .0)
 
 abbrev pub pass-promise : Promise passed pass-takes
 pass-promise s i y t z = Passes s (passSaid y) t

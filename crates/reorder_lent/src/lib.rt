@@ -5,10 +5,10 @@ use reorder_serve::Report;
 use reorder_session::Session;
 use reorder_turn::ServeAnswer;
 ghost use Rattle.reorder_admission.specs.Answer.{offerSaid};
-ghost use Rattle.reorder_session.specs.Calls.{Offers, Serves, Drains, Passes};
+ghost use Rattle.reorder_session.specs.Calls.{Offers, Serves, Passes};
 ghost use Rattle.reorder_offer.specs.Opening.{Opens};
 ghost use Rattle.reorder_turn.specs.Answer.{serveSaid};
-ghost use Rattle.reorder_serve.specs.Report.{reportSaid, Reports};
+ghost use Rattle.reorder_serve.specs.Report.{DrainsReport};
 ghost use Rattle.reorder_pass.specs.Answer.{passSaid};
 ghost use Rattle.reorder_lent.specs.Layout.{SessionLayout};
 
@@ -48,8 +48,8 @@ pub fn serve(session: &mut Session, out: &mut [u8], store: &[u8]) -> ServeAnswer
 
 // Serves until a serve waits or the budget is spent; the i-th answer is described, and where it is a packet its bytes stand at 1,080 i.
 pub fn drain(session: &mut Session, out: &mut [u8], store: &[u8], budget: u32) -> Report
-    ensures { λ r. ⌜ Drains (now (session .entry)) (now (out .entry)) (now (store .entry)) budget
-        (reportSaid r) (now (session .exit)) (now (out .exit)) × Reports r (reportSaid r) ⌝ }
+    ensures { λ r. ⌜ DrainsReport (now (session .entry)) (now (out .entry)) (now (store .entry)) budget
+        r (now (session .exit)) (now (out .exit)) ⌝ }
 {
     let drained = reorder_serve::drain(*session, out, store, budget);
     *session = drained.session;

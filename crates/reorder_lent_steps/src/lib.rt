@@ -6,10 +6,10 @@ use reorder_serve::Served;
 use reorder_session::Session;
 ghost use Rattle.reorder_admission.specs.Answer.{offerSaid};
 ghost use Rattle.reorder_session.specs.Session.{single};
-ghost use Rattle.reorder_session.specs.Calls.{Offers, Serves, Drains, Passes};
+ghost use Rattle.reorder_session.specs.Calls.{Offers, Serves, Passes};
 ghost use Rattle.reorder_offer.specs.Opening.{openOf, Opens};
 ghost use Rattle.reorder_turn.specs.Answer.{serveSaid};
-ghost use Rattle.reorder_serve.specs.Report.{reportSaid, Reports};
+ghost use Rattle.reorder_serve.specs.Report.{reportSaid, Reports, DrainsReport};
 ghost use Rattle.reorder_pass.specs.Answer.{passSaid};
 ghost use Rattle.reorder_histories.specs.History.{offer, serve, drain, offerTells, serveTells, drainTells, passTells, IsStart, IsStep, IsPassStep};
 ghost use Rattle.reorder_steps.specs.Short.{Short};
@@ -46,8 +46,7 @@ pub fn serve_step(session: Session, out: &mut [u8], store: &[u8]) -> Served
 }
 
 pub fn drain_step(session: Session, out: &mut [u8], store: &[u8], budget: u32) -> Drained
-    ensures { λ r. ⌜ (Drains session (now (out .entry)) (now (store .entry)) budget (reportSaid (r .answer)) (r .session) (now (out .exit))
-        × Reports (r .answer) (reportSaid (r .answer)))
+    ensures { λ r. ⌜ DrainsReport session (now (out .entry)) (now (store .entry)) budget (r .answer) (r .session) (now (out .exit))
         × IsStep single session (now (store .entry)) (drain (now (out .entry)) budget)
         (r .session) (now (store .entry)) (drainTells (reportSaid (r .answer)) (now (out .exit))) ⌝ }
 {

@@ -5,10 +5,10 @@ use reorder_serve::Drained;
 use reorder_serve::Served;
 use reorder_session::Session;
 ghost use Rattle.reorder_admission.specs.Answer.{offerSaid};
-ghost use Rattle.reorder_session.specs.Calls.{Offers, Serves, Drains, Passes};
+ghost use Rattle.reorder_session.specs.Calls.{Offers, Serves, Passes};
 ghost use Rattle.reorder_offer.specs.Opening.{Opens};
 ghost use Rattle.reorder_turn.specs.Answer.{serveSaid};
-ghost use Rattle.reorder_serve.specs.Report.{reportSaid, Reports};
+ghost use Rattle.reorder_serve.specs.Report.{DrainsReport};
 ghost use Rattle.reorder_pass.specs.Answer.{passSaid};
 
 // Opens the session with this packet at position 0. A refused opening returns the session given.
@@ -43,8 +43,7 @@ pub fn serve(mut session: Session, out: &mut [u8], store: &[u8]) -> Served
 
 // Serves until a serve waits or the budget is spent; the i-th answer is described, and where it is a packet its bytes stand at 1,080 i.
 pub fn drain(mut session: Session, out: &mut [u8], store: &[u8], budget: u32) -> Drained
-    ensures { λ r. ⌜ Drains session (now (out .entry)) (now (store .entry)) budget (reportSaid (r .answer)) (r .session) (now (out .exit))
-        × Reports (r .answer) (reportSaid (r .answer)) ⌝ }
+    ensures { λ r. ⌜ DrainsReport session (now (out .entry)) (now (store .entry)) budget (r .answer) (r .session) (now (out .exit)) ⌝ }
 {
     let answer = reorder_lent::drain(&mut session, out, store, budget);
     Drained { answer, session }

@@ -29,7 +29,7 @@ module _ {S : Type 0} (B : Buffer S) where
   -- a drain into out, of what the store holds
   pub record Drains (s : S) (out store : List ℕ) (budget : ℕ) (x : Said (List Turn)) (t : S) (c : List ℕ) : Type 0 where
     pub comes : ComesTo (drainOf B s out store budget) s out x t c
-    -- "The count it reports equals next after less next before."
+    -- "The count it reports equals next after less next before": what a drain gives for its count is tied to x where its answer is declared
     pub count : B .next t ≡ B .next s + countIn x
 
   -- a pass, which is lent no bytes

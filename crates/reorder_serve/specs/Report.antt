@@ -8,6 +8,8 @@ use lib.ListN.{length, replicate, take}
 use Rattle.octets.specs.Refusal.{Said, refused, answered}
 use Rattle.reorder_rules.specs.Sizes.{positions}
 use Rattle.reorder_rules.specs.Turn.{Turn, packet, missing, waiting}
+use Rattle.reorder_session.specs.declared.Session.{Session}
+use Rattle.reorder_session.specs.Calls.{Drains}
 use Rattle.reorder_turn.specs.declared.Description.{Description}
 use Rattle.reorder_turn.specs.Described.{none, describedAll}
 use Rattle.reorder_serve.specs.declared.DrainAnswer.{DrainAnswer}
@@ -31,7 +33,7 @@ firstOf ds (answered n) = answered (map describedBy (take n ds))
 abbrev pub reportSaid : Report → Said (List Turn)
 reportSaid r = firstOf (r .descriptions) (drainSaid (r .answer))
 
--- "The i-th answer from 0 is described … A closing Waiting is neither counted nor described, and descriptions past the count are all zeros."
+-- the count and the descriptions of what is said
 abbrev pub counted : Said (List Turn) → Said ℕ
 counted (refused n) = refused n
 counted (answered ts) = answered (length ts)
@@ -40,6 +42,12 @@ abbrev pub descriptions : Said (List Turn) → List Description
 descriptions (refused n) = replicate positions none
 descriptions (answered ts) = describedAll ts
 
+-- the report tells x and nothing more: "The i-th answer from 0 is described … A closing Waiting is neither counted nor described, and descriptions
+-- past the count are all zeros."
 pub record Reports (r : Report) (x : Said (List Turn)) : Type 0 where
   pub count : drainSaid (r .answer) ≡ counted x
   pub described : r .descriptions ≡ descriptions x
+
+-- what a drain that gives a report promises: it is a drain of what the report stands for
+abbrev pub DrainsReport : Session → List ℕ → List ℕ → ℕ → Report → Session → List ℕ → Type 0
+DrainsReport s out store budget r t c = Drains s out store budget (reportSaid r) t c × Reports r (reportSaid r)

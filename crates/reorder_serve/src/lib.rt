@@ -8,10 +8,10 @@ ghost use mathlib.Core.Path.{_≡_};
 ghost use Prim.Native.Nat.{_≤_, _<_};
 ghost use lib.ListN.{length};
 ghost use Rattle.octets.specs.Refusal.{answered};
-ghost use Rattle.reorder_session.specs.Calls.{turn, turned, shown, turns, turnedAll, shownAll, Serves, Drains};
+ghost use Rattle.reorder_session.specs.Calls.{turn, turned, shown, turns, turnedAll, shownAll, Serves};
 ghost use Rattle.reorder_turn.specs.Answer.{serveSaid};
 ghost use Rattle.reorder_turn.specs.Described.{describedAll};
-ghost use Rattle.reorder_serve.specs.Report.{drainSaid, reportSaid, Reports};
+ghost use Rattle.reorder_serve.specs.Report.{drainSaid, DrainsReport};
 
 // What a serve answers, and the session then.
 pub struct Served {
@@ -129,8 +129,7 @@ fn run(session: Session, out: &mut [u8], store: &[u8], budget: u32) -> Drained
 
 // Serves until a serve waits or the budget is spent; the i-th answer is described, and where it is a packet its bytes stand at 1,080 i.
 pub fn drain(session: Session, out: &mut [u8], store: &[u8], budget: u32) -> Drained
-    ensures { λ r. ⌜ Drains session (now (out .entry)) (now (store .entry)) budget (reportSaid (r .answer)) (r .session) (now (out .exit))
-        × Reports (r .answer) (reportSaid (r .answer)) ⌝ }
+    ensures { λ r. ⌜ DrainsReport session (now (out .entry)) (now (store .entry)) budget (r .answer) (r .session) (now (out .exit)) ⌝ }
 {
     let n = reorder_turn::drain_refusal(session, store.len(), out.len(), budget);
     if n != 0 {
