@@ -8,7 +8,7 @@ use Rattle.reorder_rules.specs.Outcome.{Outcome, ComesTo}
 use Rattle.reorder_rules.specs.Turn.{Turn, packet, missing, waiting}
 use Rattle.reorder_rules.proofs.Said.{comes-by}
 use Rattle.reorder_rules.proofs.Numbered.{Numbered}
-use Rattle.reorder_turn.specs.Described.{none, described, describedAll}
+use Rattle.reorder_turn.specs.Described.{noDescription, described, describedAll}
 use Rattle.reorder_serve.specs.Report.{counted}
 use Rattle.reorder_descriptions.specs.Listed.{listed}
 use Rattle.reorder_descriptions.proofs.Listed.{listed-append}
@@ -66,7 +66,7 @@ turns-in (t ∷ ts) more = λ i. turn-by t i ∷ turns-in ts more i
 turns-listed : (ts : List Turn) → turnsIn (length ts) (listed (describedAll ts)) ≡ ts
 unfolding describedAll
 turns-listed ts =
-    ap (turnsIn (length ts)) (listed-append (map described ts) (replicate (32 - length ts) none)) ∙ turns-in ts _
+    ap (turnsIn (length ts)) (listed-append (map described ts) (replicate (32 - length ts) noDescription)) ∙ turns-in ts _
 
 turns-said : (x : Said (List Turn)) (d : List ℕ) → Numbered x → turnsSaid (drainedCount (counted x)) (tabled x d) ≡ x
 unfolding say

@@ -9,7 +9,7 @@ use lib.Seq.{take-suc, take-all, length-take-le}
 use Rattle.octets.specs.Bytes.{put}
 use Rattle.octets.proofs.Store.{put-then, put-nothing, put-length, put-whole}
 use Rattle.reorder_turn.specs.declared.Description.{Description}
-use Rattle.reorder_turn.specs.Described.{none}
+use Rattle.reorder_turn.specs.Described.{noDescription}
 use Rattle.reorder_descriptions.specs.Listed.{listed}
 
 pub listed-append : (a b : List Description) → listed (a ++ b) ≡ listed a ++ listed b
@@ -28,13 +28,13 @@ pub stored-none : (ds : List Description) (old : List ℕ) → Stored ds old old
 stored-none ds old = (omega arith, sym (put-nothing old 0))
 
 pub stored-more : (ds : List Description) (old l : List ℕ) (i : ℕ) → i < 32 → length ds ≡ 32 → Stored ds old l i
-    → Stored ds old (put (put l (2 * i) (getD ds i none .kind ∷ [])) (2 * i + 1) (getD ds i none .position ∷ [])) (i + 1)
+    → Stored ds old (put (put l (2 * i) (getD ds i noDescription .kind ∷ [])) (2 * i + 1) (getD ds i noDescription .position ∷ [])) (i + 1)
 stored-more ds old l i h k s =
-    let d : Description = getD ds i none in
+    let d : Description = getD ds i noDescription in
     let t : List Description = take i ds in
     let n : length (listed t) ≡ 2 * i = listed-length t ∙ ap (λ (k : ℕ). 2 * k) (length-take-le i ds (omega arith)) in
     let m : length (listed t ++ (d .kind ∷ [])) ≡ 2 * i + 1 = simp length-append (omega arith) in
-    let u : take (i + 1) ds ≡ t ++ (d ∷ []) = ap (λ (k : ℕ). take k ds) (add-one i) ∙ take-suc ds i none (omega arith) in (
+    let u : take (i + 1) ds ≡ t ++ (d ∷ []) = ap (λ (k : ℕ). take k ds) (add-one i) ∙ take-suc ds i noDescription (omega arith) in (
       omega arith,
       ap (λ (z : List ℕ). put (put z (2 * i) (d .kind ∷ [])) (2 * i + 1) (d .position ∷ [])) (s .1)
           ∙ ap (λ (z : List ℕ). put z (2 * i + 1) (d .position ∷ [])) (put-then (listed t) old (d .kind ∷ []) 0 (2 * i) (omega arith))

@@ -3,7 +3,7 @@ use reorder_turn::Description;
 ghost use mathlib.Core.Path.{_≡_};
 ghost use Rattle.reorder_descriptions.specs.Listed.{listed};
 
-// Stores the kind and the position of each description. To lend the numbers as a slice tells the proof that they are 64.
+// Stores the kind and the position of each description. They are lent as a slice, whose length is known to be 64.
 pub fn put_descriptions(descriptions: [Description; 32], out: &mut [u32; 64])
     ensures { λ _. ⌜ now (out .exit) ≡ listed descriptions ⌝ }
 {

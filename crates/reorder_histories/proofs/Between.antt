@@ -3,7 +3,7 @@ use Prim.Native.Nat.{ℕ, zero, suc, _+_, _≤_}
 use mathlib.Core.Path.{_≡_, refl, sym, ap, _∙_, subst}
 use mathlib.Core.Bool.{Bool, true}
 use mathlib.Core.List.{List, [], _∷_, _++_, append-nil, append-assoc}
-use mathlib.Core.Logic.{_⊎_, inl, inr}
+use mathlib.Core.Logic.{inl, inr}
 use native.Mathlib.Omega.{arith}
 use lib.ListN.{length}
 use Rattle.reorder_rules.specs.Turn as Turn-rules
@@ -15,10 +15,10 @@ use Rattle.window.specs.Window.{skipped}
 use Rattle.reorder_session.specs.declared.Session.{Session}
 use Rattle.reorder_session.specs.Session.{slot, withWindow, single}
 use Rattle.reorder_rules.specs.Outcome.{Outcome, outcome}
-use Rattle.reorder_rules.specs.Turn.{Turn, packet, missing, waiting}
+use Rattle.reorder_rules.specs.Turn.{Turn, packet, missing, waiting, bytesAt}
 use Rattle.reorder_session.specs.Calls.{turn, turned, shown, turns, turnedAll, shownAll, serveRefusal, drainRefusal, serveOf, drainOf, passRefusal, passOf}
 use Rattle.reorder_rules.proofs.Ready.{ServeReady, serve-ready, DrainReady, drain-ready}
-use Rattle.reorder_laws.specs.Serves.{answerAt, bytesAt}
+use Rattle.reorder_laws.specs.Serves.{answerAt}
 use Rattle.reorder_laws.proofs.Pieces.{piece-same, slot-length, shown-packet}
 use Rattle.reorder_rules.proofs.Turns.{Split, turns-split, turns-most}
 use Rattle.reorder_histories.specs.History as Any

@@ -13,7 +13,6 @@ use Rattle.reorder_rules.specs.Promises.{Offers, Serves, Drains, Passes}
 use Rattle.reorder_rules.proofs.Keeps.{offers-itself, serves-itself, drains-itself, passes-itself}
 use Rattle.reorder_session.specs.declared.Session.{Session}
 use Rattle.reorder_session.specs.Session.{single}
-use Rattle.reorder_offer.specs.Opening.{openOf, Opens}
 use Rattle.reorder_offer.proofs.Opening.{opens-itself}
 use Rattle.reorder_histories.specs.History.{Call, offer, serve, drain, pass, offerTells, serveTells, drainTells, passTells, State, start, step, runBy, run, MadeBy, CallMade, IsStep, IsPassStep, OpenMade, IsStart}
 use Rattle.reorder_histories.specs.Histories.{Consumer, opening, atStart, atEnd, HigherThresholdLosesNothing}

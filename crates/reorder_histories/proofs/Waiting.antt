@@ -1,7 +1,7 @@
 -- A drain of 32 goes past every position that can be held, so a buffer waits after it.
 use Prim.Native.Nat.{ℕ, zero, suc, _+_, _<_}
 use mathlib.Core.Path.{_≡_, refl, sym, ap, _∙_, subst}
-use mathlib.Core.Bool.{Bool, true, false, not}
+use mathlib.Core.Bool.{Bool, true, false}
 use mathlib.Core.List.{List, [], _∷_, map}
 use mathlib.Core.Logic.{_⊎_, inl, inr}
 use native.Mathlib.Omega.{arith}
@@ -26,7 +26,7 @@ use Rattle.reorder_laws.proofs.Drains.{drained, fine}
 use Rattle.reorder_histories.specs.History as Any
 use Rattle.reorder_histories.specs.History.{offer, drain, offers}
 use Rattle.reorder_histories.specs.Histories.{State, step, Waits, WaitsAfter, Supposed, Consumer, atStart}
-use Rattle.reorder_histories.specs.Drained.{budget, Arrival, packetOf, drainedAfterEach, Sized, NoneTooFar, DrainedConsumer, DrainsMeetDemand3}
+use Rattle.reorder_histories.specs.Drained.{wholeBudget, Arrival, packetOf, drainedAfterEach, Sized, NoneTooFar, DrainedConsumer, DrainsMeetDemand3}
 use Rattle.reorder_histories.proofs.Between.{oneTurn}
 use Rattle.reorder_histories.proofs.Buffer.{turned-held}
 use Rattle.reorder_histories.proofs.Theorem.{opened-size, higher-threshold-loses-nothing}
@@ -49,17 +49,17 @@ past-all (suc n) s h = go (moves-or (turn s)) (past-all n (oneTurn s))
         let l = held-least (oneTurn s .window) q e in
         omega (arith, h q (sym (turned-held s (turn s) (shows s) q l) ∙ e), one-more single (λ t. refl) (λ t. refl) s (turn s) k))
 
-drained-waits : (σ : State) (out : List ℕ) (ts : List Turn) → drainOf (σ .session) out (σ .store) budget .said ≡ answered ts
-    → Waits (step σ (drain out budget))
+drained-waits : (σ : State) (out : List ℕ) (ts : List Turn) → drainOf (σ .session) out (σ .store) wholeBudget .said ≡ answered ts
+    → Waits (step σ (drain out wholeBudget))
 unfolding Any.step
 drained-waits σ out ts e =
     let s = σ .session in
-    let d = drained s out (σ .store) budget ts e in
-    let t = turnedAll s (turns budget s) in
-    let same : drainOf s out (σ .store) budget .session ≡ t = d .session ∙ ap (turnedAll s) (d .all) in
-    let v : Whole t = whole t (keeps-turns budget s .unbroken (unbroken s (whole-fit s (d .ready .fit)))) in
+    let d = drained s out (σ .store) wholeBudget ts e in
+    let t = turnedAll s (turns wholeBudget s) in
+    let same : drainOf s out (σ .store) wholeBudget .session ≡ t = d .session ∙ ap (turnedAll s) (d .all) in
+    let v : Whole t = whole t (keeps-turns wholeBudget s .unbroken (unbroken s (whole-fit s (d .ready .fit)))) in
     let f = fine (σ .store) (d .ready .store) out (omega (arith, d .ready .out)) t v in
-    let all : turn t ≡ waiting = past-all budget s (λ q h. omega (arith, held-most (s .window) q h)) in
+    let all : turn t ≡ waiting = past-all wholeBudget s (λ q h. omega (arith, held-most (s .window) q h)) in
     record {
       out = out;
       room = omega (arith, d .ready .out);
@@ -82,25 +82,25 @@ after-offer σ b r =
     }
 
 module _ (out : List ℕ) (room : length out ≡ 34560) where
-  after-drain : (σ : State) → Ready σ → Ready (step σ (drain out budget))
+  after-drain : (σ : State) → Ready σ → Ready (step σ (drain out wholeBudget))
   unfolding Any.step
   after-drain σ r =
       record {
-        sound = whole _ (calls-keep .by-drain (σ .session) out (σ .store) budget .unbroken (unbroken (σ .session) (r .sound)));
+        sound = whole _ (calls-keep .by-drain (σ .session) out (σ .store) wholeBudget .unbroken (unbroken (σ .session) (r .sound)));
         size = r .size;
       }
 
-  waits-then : (σ : State) → Ready σ → Waits (step σ (drain out budget))
+  waits-then : (σ : State) → Ready σ → Waits (step σ (drain out wholeBudget))
   unfolding Serve-rules.drainOf Serve-rules.drainRefusal
   waits-then σ r =
       let s = σ .session in
-      let n = drainRefusal s (length (σ .store)) (length out) budget in
+      let n = drainRefusal s (length (σ .store)) (length out) wholeBudget in
       let z : n ≡ 0 =
       sym
       (then-pass _ _ 0 (fit-whole s (r .sound))
-      (pass-eq (length (σ .store)) 34560 27 _ 0 (r .size) (pass-eq (length out) 34560 29 _ 0 room (pass-le budget 32 31 0 0 (omega arith) refl)))) in
-      drained-waits σ out (turns budget s)
-      (said-is (say n (turns budget s)) s out (turnedAll s) (shownAll s 0 (σ .store) out) ∙ sym (say-answered n (turns budget s) (turns budget s) z refl))
+      (pass-eq (length (σ .store)) 34560 27 _ 0 (r .size) (pass-eq (length out) 34560 29 _ 0 room (pass-le wholeBudget 32 31 0 0 (omega arith) refl)))) in
+      drained-waits σ out (turns wholeBudget s)
+      (said-is (say n (turns wholeBudget s)) s out (turnedAll s) (shownAll s 0 (σ .store) out) ∙ sym (say-answered n (turns wholeBudget s) (turns wholeBudget s) z refl))
 
 supposed : (l : List Arrival) → Sized l → (offered : Bool) (σ : State) → Ready σ → WaitsAfter offered σ → NoneTooFar σ (drainedAfterEach l)
     → Supposed offered σ (drainedAfterEach l)
@@ -109,7 +109,7 @@ supposed [] sized offered σ r h n = h
 supposed (a ∷ l) sized offered σ r h n =
     let τ = step σ (offer (a .packet)) in
     let q = after-offer σ (a .packet) r in
-    (h, n .0, supposed l (sized .1) true (step τ (drain (a .out) budget)) (after-drain (a .out) (sized .0) τ q) (waits-then (a .out) (sized .0) τ q) (n .1))
+    (h, n .0, supposed l (sized .1) true (step τ (drain (a .out) wholeBudget)) (after-drain (a .out) (sized .0) τ q) (waits-then (a .out) (sized .0) τ q) (n .1))
 
 same-packets : (l : List Arrival) → offers (drainedAfterEach l) ≡ map packetOf l
 unfolding drainedAfterEach offers

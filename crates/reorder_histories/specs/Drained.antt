@@ -12,8 +12,8 @@ use Rattle.reorder_histories.specs.History.{Call, offer, serve, drain, p
 use Rattle.reorder_histories.specs.Histories.{State, step, Waits, NotTooFar, Consumer, opening, atStart, atEnd, NothingLost}
 
 -- the budget: as many as can be held
-abbrev pub budget : ℕ
-budget = positions
+abbrev pub wholeBudget : ℕ
+wholeBudget = positions
 
 -- a packet that is offered, and the output that the drain after it is lent, with whatever that holds
 pub record Arrival : Type 0 where
@@ -26,7 +26,7 @@ packetOf a = a .packet
 -- the packets offered in order, and a drain after each
 unfoldable pub drainedAfterEach : List Arrival → List Call
 drainedAfterEach [] = []
-drainedAfterEach (a ∷ rest) = offer (a .packet) ∷ drain (a .out) budget ∷ drainedAfterEach rest
+drainedAfterEach (a ∷ rest) = offer (a .packet) ∷ drain (a .out) wholeBudget ∷ drainedAfterEach rest
 
 -- every output has the size that a drain asks for
 unfoldable pub Sized : List Arrival → Type 0
@@ -51,7 +51,7 @@ pub record DrainedConsumer (c : Consumer) (b : List ℕ) (word : ℕ) (packets :
   pub near : NoneTooFar (atStart c b word) (c .calls)
 
 pub record DrainsMeetDemand3 : Type 0 where
-  pub drained-waits : (σ : State) (out : List ℕ) (ts : List Turn) → drainOf (σ .session) out (σ .store) budget .said ≡ answered ts
-      → Waits (step σ (drain out budget))
+  pub drained-waits : (σ : State) (out : List ℕ) (ts : List Turn) → drainOf (σ .session) out (σ .store) wholeBudget .said ≡ answered ts
+      → Waits (step σ (drain out wholeBudget))
   pub lose-nothing : (less more : Consumer) (b : List ℕ) (word : ℕ) (packets : List (List ℕ)) → less .threshold ≤ more .threshold
       → DrainedConsumer less b word packets → DrainedConsumer more b word packets → NothingLost (atEnd less b word) (atEnd more b word)

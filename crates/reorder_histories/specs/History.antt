@@ -7,11 +7,10 @@ use Rattle.octets.specs.Refusal.{Said, refused, answered}
 use Rattle.reorder_rules.specs.Outcome.{Outcome, ComesTo}
 use Rattle.reorder_rules.specs.Buffer.{Buffer}
 use Rattle.reorder_rules.specs.Offer.{offerOf}
-use Rattle.reorder_rules.specs.Turn.{Turn, packet, missing, waiting}
+use Rattle.reorder_rules.specs.Turn.{Turn, packet, missing, waiting, bytesAt}
 use Rattle.reorder_rules.specs.Serve.{serveOf, drainOf}
 use Rattle.reorder_rules.specs.Pass.{passOf}
 use Rattle.reorder_rules.specs.Promises.{Offers, Serves, Drains, Passes}
-use Rattle.reorder_laws.specs.Serves.{bytesAt}
 
 -- ---- the calls
 

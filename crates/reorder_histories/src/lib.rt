@@ -9,7 +9,8 @@ pub fn higher_threshold_loses_nothing()
     ensures { λ _. ⌜ HigherThresholdLosesNothing ⌝ }
 {}
 
-// A drain of 32 that isn't refused leaves a buffer that waits, so consumers who are drained so after each offer are what demand 3 supposes unless an offer is answered 25.
+// A drain of 32 that isn't refused leaves a buffer that waits, so consumers who are drained so after each offer are what demand 3 supposes
+// unless an offer is answered 25.
 pub fn drains_meet_demand_3()
     ensures { λ _. ⌜ DrainsMeetDemand3 ⌝ }
 {}

@@ -23,12 +23,12 @@ use Rattle.reorder_session.specs.Calls.{offerDue, offerOf, turn, turned, shown,
 use Rattle.reorder_offer.specs.Opening.{openDue, openOf}
 use Rattle.reorder_rules.proofs.Said.{outcome-cases, left, left-refused}
 use Rattle.reorder_rules.proofs.Taken.{Taken, taken-offer}
-use Rattle.reorder_rules.specs.Turn.{Turn, packet, missing, waiting}
+use Rattle.reorder_rules.specs.Turn.{Turn, packet, missing, waiting, bytesAt}
 use Rattle.reorder_rules.proofs.Turns.{Split, turns-split}
 use Rattle.reorder_turn.proofs.Turns.{Shows, shows-packet, shows-missing, shows-waiting, shows}
 use Rattle.reorder_rules.proofs.Ready.{serve-ready, pass-ready}
 use Rattle.reorder_offer.proofs.Opening.{accepted-opening}
-use Rattle.reorder_laws.specs.Serves.{answerAt, bytesAt}
+use Rattle.reorder_laws.specs.Serves.{answerAt}
 use Rattle.reorder_laws.specs.Held.{Holds, GivenBy, DrainedBy, BytesComeOut}
 use Rattle.reorder_laws.proofs.Pieces.{piece-same, piece-other, slot-length}
 use Rattle.reorder_laws.proofs.Drains.{drained, drained-packet}

@@ -1,9 +1,8 @@
 -- A drain's turns are as many serves: each serve of a session that isn't broken takes one turn.
 use Prim.Native.Nat.{ℕ, zero, suc, _+_, _-_, _≤_}
 use mathlib.Core.Path.{_≡_, refl, sym, ap, _∙_, subst}
-use mathlib.Core.Bool.{not}
 use mathlib.Core.List.{List, [], _∷_, _++_, map}
-use mathlib.Core.Logic.{_⊎_, inl, inr}
+use mathlib.Core.Logic.{inl, inr}
 use native.Mathlib.Nat.{sub-zero}
 use native.Mathlib.Omega.{arith}
 use lib.ListN.{length, replicate, getD}
@@ -15,12 +14,12 @@ use Rattle.reorder_session.specs.declared.Session.{Session}
 use Rattle.reorder_session.specs.Session.{slot, single}
 use Rattle.reorder_rules.specs.Outcome.{outcome}
 use Rattle.reorder_rules.proofs.Said.{left}
-use Rattle.reorder_rules.specs.Turn.{Turn, packet, waiting}
+use Rattle.reorder_rules.specs.Turn.{Turn, packet, waiting, bytesAt}
 use Rattle.reorder_session.specs.Calls.{turn, turned, shown, turns, turnedAll, shownAll, serveRefusal, drainRefusal, serveOf, drainOf}
 use Rattle.reorder_rules.proofs.Turns.{turns-stop, Split, turns-split, turns-most}
 use Rattle.reorder_rules.proofs.Ready.{DrainReady, drain-ready}
 use Rattle.reorder_session.proofs.Whole.{Whole, whole-fit, fit-whole}
-use Rattle.reorder_laws.specs.Serves.{serves, sessionAfter, saidBy, bytesBy, answerAt, bytesAt, DrainsAreServes}
+use Rattle.reorder_laws.specs.Serves.{serves, sessionAfter, saidBy, bytesBy, answerAt, DrainsAreServes}
 use Rattle.reorder_laws.proofs.Kept.{whole-turned}
 use Rattle.reorder_laws.proofs.Pieces.{piece-same, slot-length, shown-packet, shown-other}
 

@@ -11,10 +11,10 @@ use Rattle.octets.proofs.Codec.{part-length}
 use Rattle.octets.proofs.Store.{put-there, put-before, put-after}
 use Rattle.reorder_session.specs.declared.Session.{Session}
 use Rattle.reorder_session.specs.Session.{slot, single}
-use Rattle.reorder_rules.specs.Turn.{Turn, packet, missing, waiting}
+use Rattle.reorder_rules.specs.Turn.{Turn, packet, missing, waiting, bytesAt}
 use Rattle.reorder_session.specs.Calls.{turned, shown, shownAll}
 use Rattle.reorder_rules.proofs.Turns.{shown-length}
-use Rattle.reorder_laws.specs.Serves.{answerAt, bytesAt}
+use Rattle.reorder_laws.specs.Serves.{answerAt}
 
 -- a piece stored is there, and every other piece as it was
 pub piece-same : (s x : List ℕ) (k : ℕ) → length x ≡ 1080 → 1080 * k + 1080 ≤ length s → bytesAt (put s (1080 * k) x) k ≡ x

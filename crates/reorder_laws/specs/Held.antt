@@ -10,8 +10,8 @@ use Rattle.reorder_session.specs.declared.Session.{Session}
 use Rattle.reorder_session.specs.Session.{slot}
 use Rattle.reorder_offer.specs.Opening.{openOf}
 use Rattle.reorder_session.specs.Calls.{offerOf, serveOf, drainOf, passOf}
-use Rattle.reorder_rules.specs.Turn.{Turn, packet}
-use Rattle.reorder_laws.specs.Serves.{answerAt, bytesAt}
+use Rattle.reorder_rules.specs.Turn.{Turn, packet, bytesAt}
+use Rattle.reorder_laws.specs.Serves.{answerAt}
 
 -- position p is held, with the bytes b in the store
 pub record Holds (s : Session) (store : List ℕ) (p : ℕ) (b : List ℕ) : Type 0 where
@@ -33,8 +33,8 @@ pub record DrainedBy (s : Session) (out store : List ℕ) (budget p : ℕ) (b : 
 
 pub record BytesComeOut : Type 0 where
   -- what an opening or an offer took is held, with its bytes
-  pub open-holds : (s : Session) (store b : List ℕ) (h word p : ℕ) → openOf s store b h word .said ≡ answered p
-      → Holds (openOf s store b h word .session) (openOf s store b h word .bytes) p b
+  pub open-holds : (s : Session) (store b : List ℕ) (threshold word p : ℕ) → openOf s store b threshold word .said ≡ answered p
+      → Holds (openOf s store b threshold word .session) (openOf s store b threshold word .bytes) p b
   pub offer-holds : (s : Session) (store b : List ℕ) (p : ℕ) → offerOf s store b .said ≡ answered p
       → Holds (offerOf s store b .session) (offerOf s store b .bytes) p b
   -- what is held stays so under any offer and any pass, refused or not

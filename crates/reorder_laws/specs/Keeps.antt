@@ -20,8 +20,8 @@ pub record Keeps (s t : Session) : Type 0 where
 
 pub record CallsKeep : Type 0 where
   -- an accepted opening gives a session that isn't broken, and a store of the size it had
-  pub by-open : (s : Session) (store b : List ℕ) (h word p : ℕ) → openOf s store b h word .said ≡ answered p → broken (openOf s store b h word .session) ≡ false
-  pub by-open-store : (s : Session) (store b : List ℕ) (h word : ℕ) → length (openOf s store b h word .bytes) ≡ length store
+  pub by-open : (s : Session) (store b : List ℕ) (threshold word p : ℕ) → openOf s store b threshold word .said ≡ answered p → broken (openOf s store b threshold word .session) ≡ false
+  pub by-open-store : (s : Session) (store b : List ℕ) (threshold word : ℕ) → length (openOf s store b threshold word .bytes) ≡ length store
   pub by-offer : (s : Session) (store b : List ℕ) → Keeps s (offerOf s store b .session)
   pub by-offer-store : (s : Session) (store b : List ℕ) → length (offerOf s store b .bytes) ≡ length store
   pub by-serve : (s : Session) (out store : List ℕ) → Keeps s (serveOf s out store .session)

@@ -1,14 +1,13 @@
 -- A drain with a budget of b is b serves: as answers, session and bytes.
-use Prim.Native.Nat.{ℕ, zero, suc, _-_, _*_, _≤_}
+use Prim.Native.Nat.{ℕ, zero, suc, _-_, _≤_}
 use mathlib.Core.Path.{_≡_}
 use mathlib.Core.List.{List, [], _∷_, _++_, map}
 use lib.ListN.{length, replicate, getD}
-use Rattle.octets.specs.Bytes.{part}
 use Rattle.octets.specs.Refusal.{Said, answered}
 use Rattle.packet_layout.specs.Layout.{packetSize}
 use Rattle.reorder_session.specs.declared.Session.{Session}
 use Rattle.reorder_rules.specs.Outcome.{Outcome}
-use Rattle.reorder_rules.specs.Turn.{Turn, packet, waiting}
+use Rattle.reorder_rules.specs.Turn.{Turn, packet, waiting, bytesAt}
 use Rattle.reorder_session.specs.Calls.{serveOf, drainOf}
 
 -- n serves one after another: each gets the session that the one before left, the same store, and an output like `one`
@@ -30,10 +29,6 @@ bytesBy o = o .bytes
 -- the answer numbered i, from 0; Waiting past the last
 abbrev pub answerAt : List Turn → ℕ → Turn
 answerAt ts i = getD ts i waiting
-
--- the 1,080 bytes at 1,080 i
-abbrev pub bytesAt : List ℕ → ℕ → List ℕ
-bytesAt bytes i = part bytes (packetSize * i) packetSize
 
 -- a drain of s with this budget, which isn't refused and answers ts, against as many serves with outputs of at least 1,080 bytes
 pub record IsServes (s : Session) (out store : List ℕ) (budget : ℕ) (ts : List Turn) (one : List ℕ) : Type 0 where

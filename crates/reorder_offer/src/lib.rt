@@ -8,6 +8,7 @@ use reorder_session::Session;
 ghost use mathlib.Core.Path.{_≡_};
 ghost use lib.ListN.{length};
 ghost use Rattle.octets.specs.Bytes.{put};
+ghost use Rattle.packet_layout.specs.Layout.{packetSize};
 ghost use Rattle.reorder_admission.specs.Answer.{offerSaid};
 ghost use Rattle.reorder_session.specs.Calls.{Offers};
 ghost use Rattle.reorder_offer.specs.Opening.{Opens, noSession};
@@ -20,7 +21,7 @@ pub struct Offered {
 
 // Stores an accepted packet in the store. Its length is told, so that the copy compiles to wide moves.
 fn put_packet(packet: &[u8], at: usize, store: &mut [u8])
-    requires { ⌜ length (now packet) ≡ 1080 ⌝ }
+    requires { ⌜ length (now packet) ≡ packetSize ⌝ }
     ensures { λ _. ⌜ now (store .exit) ≡ put (now (store .entry)) at (now (packet .entry)) ⌝ }
 {
     octets::write_into(&packet[..PACKET_SIZE], at, store);

@@ -27,7 +27,7 @@ pub fn pass(session: Session) -> Passed
     }
     let window = session.window;
     let next = window.start;
-    if next == reorder_rules::END {
+    if next == reorder_rules::END_POSITION {
         return Passed {
             answer: PassAnswer::Refused(28),
             session,

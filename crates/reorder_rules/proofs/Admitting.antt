@@ -23,8 +23,8 @@ castable : (z : ℤ) → z ≡ pos (natAbs z) → natAbs z ≤ 999999 → T (non
 castable (pos m) e h = (tt, omega arith)
 castable (negsuc m) e h = absurd (omega (ints, e))
 
-module _ (next : ℕ) (held : ℕ → Bool) (z : ℤ) where
-  pub beyond : ltZ (pos 999999) z ≡ true → refused 22 ≡ admitted next held (answered z)
+module _ (start : ℕ) (held : ℕ → Bool) (z : ℤ) where
+  pub beyond : ltZ (pos 999999) z ≡ true → refused 22 ≡ admitted start held (answered z)
   unfolding admitted positionRefusal
   beyond h =
       let e : leZ z (pos 999999) ≡ false = omega ints in
@@ -34,46 +34,46 @@ module _ (next : ℕ) (held : ℕ → Bool) (z : ℤ) where
     served : leZ z (pos 999999) ≡ true
     served = omega ints
 
-    pub below : ltZ z (pos next) ≡ true → refused 23 ≡ admitted next held (answered z)
+    pub below : ltZ z (pos start) ≡ true → refused 23 ≡ admitted start held (answered z)
     unfolding admitted positionRefusal
     below h =
-        let e : leZ (pos next) z ≡ false = omega ints in
-        say-refused 23 _ _ (pass _ 22 _ 23 served (fail (leZ (pos next) z) 23 _ e)) (λ q. omega arith)
+        let e : leZ (pos start) z ≡ false = omega ints in
+        say-refused 23 _ _ (pass _ 22 _ 23 served (fail (leZ (pos start) z) 23 _ e)) (λ q. omega arith)
 
-    module _ (low : ltZ z (pos next) ≡ false) where
-      reached : leZ (pos next) z ≡ true
+    module _ (low : ltZ z (pos start) ≡ false) where
+      reached : leZ (pos start) z ≡ true
       reached = omega ints
 
       pub fits-u32 : T (nonNeg z) × Fits w32 (natAbs z)
-      fits-u32 = let n = number next z top low in castable z (n .0) (n .1 .1)
+      fits-u32 = let n = number start z top low in castable z (n .0) (n .1 .1)
 
-      pub from-next : next ≤ natAbs z
-      from-next = number next z top low .1 .0
+      pub from-next : start ≤ natAbs z
+      from-next = number start z top low .1 .0
 
-      within-window : leZ z (pos (next + 31)) ≡ leb (natAbs z) (next + 31)
-      within-window = ap (λ (x : ℤ). leZ x (pos (next + 31))) (number next z top low .0)
+      within-window : leZ z (pos (start + 31)) ≡ leb (natAbs z) (start + 31)
+      within-window = ap (λ (x : ℤ). leZ x (pos (start + 31))) (number start z top low .0)
 
-      pub taken : held (natAbs z) ≡ true → refused 24 ≡ admitted next held (answered z)
+      pub taken : held (natAbs z) ≡ true → refused 24 ≡ admitted start held (answered z)
       unfolding admitted positionRefusal
       taken h =
           say-refused 24 _ _ (pass _ 22 _ 24 served (pass _ 23 _ 24 reached (fail (not (held (natAbs z))) 24 _ (ap not h)))) (λ q. omega arith)
 
       module _ (free : held (natAbs z) ≡ false) where
-        pub ahead : 31 < natAbs z - next → refused 25 ≡ admitted next held (answered z)
+        pub ahead : 31 < natAbs z - start → refused 25 ≡ admitted start held (answered z)
         unfolding admitted positionRefusal
         ahead h =
             say-refused 25 _ _
             (pass _ 22 _ 25 served
             (pass _ 23 _ 25 reached
-            (pass _ 24 _ 25 (ap not free) (fail _ 25 0 (within-window ∙ lt-leb (natAbs z) (next + 31) (omega arith))))))
+            (pass _ 24 _ 25 (ap not free) (fail _ 25 0 (within-window ∙ lt-leb (natAbs z) (start + 31) (omega arith))))))
             (λ q. omega arith)
 
-        pub fits : natAbs z - next ≤ 31 → answered (natAbs z) ≡ admitted next held (answered z)
+        pub fits : natAbs z - start ≤ 31 → answered (natAbs z) ≡ admitted start held (answered z)
         unfolding admitted positionRefusal
         fits h =
             say-answered _ _ _
             (sym
             (pass _ 22 _ 0 served
             (pass _ 23 _ 0 reached
-            (pass _ 24 _ 0 (ap not free) (pass _ 25 0 0 (within-window ∙ le-leb (natAbs z) (next + 31) (omega arith)) refl)))))
+            (pass _ 24 _ 0 (ap not free) (pass _ 25 0 0 (within-window ∙ le-leb (natAbs z) (start + 31) (omega arith)) refl)))))
             refl

@@ -5,7 +5,7 @@ use mathlib.Core.List.{List, []}
 use native.Mathlib.Omega.{arith}
 use lib.ListN.{length}
 use Rattle.octets.specs.Refusal.{Said, refused, answered, say}
-use Rattle.reorder_rules.specs.Outcome.{Outcome, outcome}
+use Rattle.reorder_rules.specs.Outcome.{outcome}
 use Rattle.reorder_rules.specs.Buffer.{Buffer}
 use Rattle.reorder_rules.specs.Offer.{offerDue, offerOf}
 use Rattle.reorder_rules.specs.Turn.{turn, turned, shown, turns, turnedAll, shownAll}

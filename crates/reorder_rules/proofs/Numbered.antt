@@ -33,10 +33,10 @@ unfolding refusing
 refusing-numbered zero x h = h
 refusing-numbered (suc k) x h = λ n e z. let i : suc k ≡ n = cc in absurd (omega arith)
 
-admitted-numbered : (next : ℕ) (held : ℕ → Bool) (y : Said ℤ) → Numbered y → Numbered (admitted next held y)
+admitted-numbered : (start : ℕ) (held : ℕ → Bool) (y : Said ℤ) → Numbered y → Numbered (admitted start held y)
 unfolding admitted
-admitted-numbered next held (refused m) h = λ n e z. let i : m ≡ n = cc in h m refl (i ∙ z)
-admitted-numbered next held (answered p) h = say-numbered (positionRefusal next held p) (natAbs p)
+admitted-numbered start held (refused m) h = λ n e z. let i : m ≡ n = cc in h m refl (i ∙ z)
+admitted-numbered start held (answered p) h = say-numbered (positionRefusal start held p) (natAbs p)
 
 module _ {S : Type 0} (B : Buffer S) where
   position-numbered : (s : S) (f : PacketFields) → Numbered (positionOf B s f)

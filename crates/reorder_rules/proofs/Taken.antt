@@ -18,31 +18,31 @@ use Rattle.reorder_rules.proofs.Said.{refusing-none}
 
 -- ---- a position that is admitted
 
-pub record Admitted (next : ℕ) (held : ℕ → Bool) (y : Said ℤ) (p : ℕ) : Type 0 where
+pub record Admitted (start : ℕ) (held : ℕ → Bool) (y : Said ℤ) (p : ℕ) : Type 0 where
   pub at : y ≡ answered (pos p)
   pub most : p ≤ 999999
-  pub least : next ≤ p
+  pub least : start ≤ p
   pub free : held p ≡ false
-  pub near : p ≤ next + 31
+  pub near : p ≤ start + 31
 
 number-of : (n : ℕ) (z : ℤ) → leZ (pos n) z ≡ true → z ≡ pos (natAbs z)
 number-of n (pos m) e = refl
 number-of n (negsuc m) e = absurd (omega ints)
 
-pub admitted-at : (next : ℕ) (held : ℕ → Bool) (y : Said ℤ) (p : ℕ) → admitted next held y ≡ answered p → Admitted next held y p
+pub admitted-at : (start : ℕ) (held : ℕ → Bool) (y : Said ℤ) (p : ℕ) → admitted start held y ≡ answered p → Admitted start held y p
 unfolding admitted positionRefusal
-admitted-at next held (refused n) p e = let z : _≡_ {A = ℕ} 0 1 = cc in absurd (omega arith)
-admitted-at next held (answered z) p e =
-    let a = answer-said (positionRefusal next held z) (natAbs z) p (sym e) in
+admitted-at start held (refused n) p e = let z : _≡_ {A = ℕ} 0 1 = cc in absurd (omega arith)
+admitted-at start held (answered z) p e =
+    let a = answer-said (positionRefusal start held z) (natAbs z) p (sym e) in
     let c1 = passed _ 21 _ (a .0) in
     let c2 = passed _ 22 _ (c1 .1) in
     let c3 = passed _ 23 _ (c2 .1) in
     let c4 = passed _ 24 _ (c3 .1) in
-    let n : z ≡ pos (natAbs z) = number-of next z (c2 .0) in
+    let n : z ≡ pos (natAbs z) = number-of start z (c2 .0) in
     let i : z ≡ pos p = n ∙ ap pos (sym (a .1)) in
     let top : leZ (pos p) (pos 999999) ≡ true = subst (λ (x : ℤ). leZ x (pos 999999) ≡ true) i (c1 .0) in
-    let low : leZ (pos next) (pos p) ≡ true = subst (λ (x : ℤ). leZ (pos next) x ≡ true) i (c2 .0) in
-    let high : leZ (pos p) (pos (next + 31)) ≡ true = subst (λ (x : ℤ). leZ x (pos (next + 31)) ≡ true) i (c4 .0) in
+    let low : leZ (pos start) (pos p) ≡ true = subst (λ (x : ℤ). leZ (pos start) x ≡ true) i (c2 .0) in
+    let high : leZ (pos p) (pos (start + 31)) ≡ true = subst (λ (x : ℤ). leZ x (pos (start + 31)) ≡ true) i (c4 .0) in
     record {
       at = ap answered i;
       most = omega ints;

@@ -1,5 +1,5 @@
--- What a session says of itself, as one consumer sees it. The calls read and change a session of type S through this alone, so that they are
--- defined once for every way to keep what is held.
+-- What is read of a session, as one consumer sees it, and what changes it. The calls are defined over this alone, once for every way to keep what is
+-- held.
 use Prim.Native.Nat.{ℕ}
 use mathlib.Core.Bool.{Bool}
 use mathlib.Core.List.{List}

@@ -15,19 +15,19 @@ use Rattle.reorder_rules.specs.Sizes.{storeSize, lastPosition}
 use Rattle.reorder_rules.specs.Outcome.{Outcome, outcome, refusing}
 use Rattle.reorder_rules.specs.Buffer.{Buffer}
 
--- 22: position over 999,999. 23, 24, 25: position below next; already held; over next + 31, where the window starts at next
+-- 22: position over 999,999. 23, 24, 25: position below next; already held; over next + 31. With one consumer the window starts at next
 unfoldable pub positionRefusal : ℕ → (ℕ → Bool) → ℤ → ℕ
-positionRefusal next held p =
+positionRefusal start held p =
     refuse 22 unless leZ p (pos lastPosition) else
-    refuse 23 unless leZ (pos next) p else
+    refuse 23 unless leZ (pos start) p else
     refuse 24 unless not (held (natAbs p)) else
-    refuse 25 unless leZ p (pos (next + 31)) else
+    refuse 25 unless leZ p (pos (start + 31)) else
     0
 
 -- where a packet goes whose position is worked out, or for which none fits (21)
 unfoldable pub admitted : ℕ → (ℕ → Bool) → Said ℤ → Said ℕ
-admitted next held (refused n) = refused n
-admitted next held (answered p) = say (positionRefusal next held p) (natAbs p)
+admitted start held (refused n) = refused n
+admitted start held (answered p) = say (positionRefusal start held p) (natAbs p)
 
 module _ {S : Type 0} (B : Buffer S) where
   -- the position of a packet of these fields: its clock is the coarse time

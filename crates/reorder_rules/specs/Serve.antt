@@ -1,6 +1,5 @@
 -- Document 01, "The rack" and "Refusal numbers": serve and drain.
 use Prim.Native.Nat.{ℕ}
-use mathlib.Core.Bool.{not}
 use mathlib.Core.List.{List}
 use lib.Dec.{eqb, leb}
 use lib.ListN.{length}

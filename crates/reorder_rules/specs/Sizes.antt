@@ -1,5 +1,5 @@
--- The numbers of document 01's section "The rack".
-use Prim.Native.Nat.{ℕ, _*_}
+-- Document 01, "What is built" and "The rack": the numbers.
+use Prim.Native.Nat.{ℕ, _+_, _*_}
 use mathlib.Core.Bool.{Bool}
 use Rattle.octets.specs.Refusal.{within}
 use Rattle.packet_layout.specs.Layout.{packetSize}
@@ -21,4 +21,4 @@ abbrev pub lastPosition : ℕ
 lastPosition = 999999
 
 abbrev pub endPosition : ℕ
-endPosition = 1000000
+endPosition = lastPosition + 1

@@ -2,7 +2,7 @@
 use Prim.Native.Nat.{ℕ, zero, suc, _+_, _*_}
 use mathlib.Core.Bool.{Bool, true, false, cond}
 use mathlib.Core.List.{List, [], _∷_}
-use Rattle.octets.specs.Bytes.{put}
+use Rattle.octets.specs.Bytes.{part, put}
 use Rattle.packet_layout.specs.Layout.{packetSize}
 use Rattle.reorder_rules.specs.Buffer.{Buffer}
 
@@ -21,6 +21,10 @@ abbrev pub isWaiting : Turn → Bool
 isWaiting (packet p) = false
 isWaiting (missing p) = false
 isWaiting waiting = true
+
+-- the bytes of the i-th answer in an output: the 1,080 at 1,080 i
+abbrev pub bytesAt : List ℕ → ℕ → List ℕ
+bytesAt out i = part out (packetSize * i) packetSize
 
 module _ {S : Type 0} (B : Buffer S) where
   unfoldable pub turn : S → Turn

@@ -1,4 +1,4 @@
-// Document 01's rules of the reorder buffer ("The rack"), over what any session says of itself, and their laws. No code: each kind of session has
+// Document 01's rules of the reorder buffer ("The rack"), for any kind of session, and their laws. No code but numbers: each kind of session has
 // its calls in crates of its own.
 
 // How many positions can be held.
@@ -16,4 +16,4 @@ pub const MOST_THRESHOLD: u32 = 31;
 pub const LAST_POSITION: i64 = 999_999;
 
 // Next once all positions are served: nothing can be held there.
-pub const END: u32 = 1_000_000;
+pub const END_POSITION: u32 = 1_000_000;

@@ -13,7 +13,7 @@ use Rattle.reorder_session.specs.declared.Session.{Session}
 use Rattle.reorder_session.specs.Session.{single}
 use Rattle.reorder_session.specs.Calls.{turn, turned, shown, turns, turnedAll, shownAll}
 use Rattle.reorder_turn.specs.declared.Description.{Description}
-use Rattle.reorder_turn.specs.Described.{none, described, describedAll}
+use Rattle.reorder_turn.specs.Described.{noDescription, described, describedAll}
 use Rattle.reorder_turn.proofs.Turns.{some-kind, described-last}
 
 -- `done` are the answers so far, i of them; s, out and descriptions are what they leave
@@ -30,7 +30,7 @@ pub record Running (budget : ℕ) (store out₀ : List ℕ) (s₀ : Session) (ou
   pub rest : turns budget s₀ ≡ done ++ turns (budget - i) s
 
 -- before the first answer
-pub run-none : (budget : ℕ) (store out : List ℕ) (s : Session) → Running budget store out s out s 0 (replicate 32 none)
+pub run-none : (budget : ℕ) (store out : List ℕ) (s : Session) → Running budget store out s out s 0 (replicate 32 noDescription)
 unfolding Turn-rules.turnedAll Turn-rules.shownAll describedAll
 run-none budget store out s =
     record {

@@ -11,7 +11,7 @@ use Rattle.reorder_rules.specs.Turn.{Turn, packet, missing, waiting}
 use Rattle.reorder_session.specs.declared.Session.{Session}
 use Rattle.reorder_session.specs.Calls.{Drains}
 use Rattle.reorder_turn.specs.declared.Description.{Description}
-use Rattle.reorder_turn.specs.Described.{none, describedAll}
+use Rattle.reorder_turn.specs.Described.{noDescription, describedAll}
 use Rattle.reorder_serve.specs.declared.DrainAnswer.{DrainAnswer}
 use Rattle.reorder_serve.specs.declared.DrainAnswer.the-variants.{Refused, Count}
 use Rattle.reorder_serve.specs.declared.Report.{Report}
@@ -39,7 +39,7 @@ counted (refused n) = refused n
 counted (answered ts) = answered (length ts)
 
 abbrev pub descriptions : Said (List Turn) → List Description
-descriptions (refused n) = replicate positions none
+descriptions (refused n) = replicate positions noDescription
 descriptions (answered ts) = describedAll ts
 
 -- the report tells x and nothing more: "The i-th answer from 0 is described … A closing Waiting is neither counted nor described, and descriptions

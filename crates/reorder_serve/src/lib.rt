@@ -8,6 +8,7 @@ ghost use mathlib.Core.Path.{_≡_};
 ghost use Prim.Native.Nat.{_≤_, _<_};
 ghost use lib.ListN.{length};
 ghost use Rattle.octets.specs.Refusal.{answered};
+ghost use Rattle.reorder_rules.specs.Sizes.{positions, storeSize, endPosition};
 ghost use Rattle.reorder_session.specs.Calls.{turn, turned, shown, turns, turnedAll, shownAll, Serves};
 ghost use Rattle.reorder_turn.specs.Answer.{serveSaid};
 ghost use Rattle.reorder_turn.specs.Described.{describedAll};
@@ -40,7 +41,7 @@ pub struct Drained {
 // Serves once where nothing is refused; a packet's bytes go to 1,080 i of the output.
 fn step(session: Session, out: &mut [u8], store: &[u8], i: u32) -> Served
     requires { ⌜ session .window .start < 4294967295 ⌝ }
-    requires { ⌜ length (now store) ≡ 34560 ⌝ }
+    requires { ⌜ length (now store) ≡ storeSize ⌝ }
     ensures { λ r. ⌜ (serveSaid (r .answer) ≡ answered (turn session))
         × ((r .session ≡ turned session (turn session))
         × (now (out .exit) ≡ shown session i (now (store .entry)) (now (out .entry)) (turn session))) ⌝ }
@@ -87,9 +88,9 @@ pub fn serve(session: Session, out: &mut [u8], store: &[u8]) -> Served
 
 // Serves until a serve waits or the budget is spent.
 fn run(session: Session, out: &mut [u8], store: &[u8], budget: u32) -> Drained
-    requires { ⌜ session .window .start ≤ 1000000 ⌝ }
-    requires { ⌜ length (now store) ≡ 34560 ⌝ }
-    requires { ⌜ budget ≤ 32 ⌝ }
+    requires { ⌜ session .window .start ≤ endPosition ⌝ }
+    requires { ⌜ length (now store) ≡ storeSize ⌝ }
+    requires { ⌜ budget ≤ positions ⌝ }
     ensures { λ r. ⌜ (drainSaid (r .answer .answer) ≡ answered (length (turns budget session)))
         × ((r .answer .descriptions ≡ describedAll (turns budget session))
         × ((r .session ≡ turnedAll session (turns budget session))

@@ -32,7 +32,7 @@ slotStart p = packetSize * (p % positions)
 abbrev pub slot : List ℕ → ℕ → List ℕ
 slot store p = part store (slotStart p) packetSize
 
--- What the session says of itself: "a session marks what it holds by p mod 32; a mark means the one such p from next to next + 31". With one
+-- What is read of the session, and what changes it: "a session marks what it holds by p mod 32; a mark means the one such p from next to next + 31". With one
 -- consumer the window starts at its next.
 abbrev pub single : Buffer Session
 single =

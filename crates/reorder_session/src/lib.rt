@@ -25,10 +25,10 @@ pub struct Session {
 fn is_past_end(window: Window) -> bool
     ensures { λ r. ⌜ r ≡ pastEnd window ⌝ }
 {
-    if reorder_rules::END < window.start {
+    if reorder_rules::END_POSITION < window.start {
         return true;
     }
-    window::is_held_ahead(window, reorder_rules::END - window.start)
+    window::is_held_ahead(window, reorder_rules::END_POSITION - window.start)
 }
 
 // Whether the session is broken: refusal 30.

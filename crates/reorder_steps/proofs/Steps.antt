@@ -1,14 +1,13 @@
 -- What the three calls of a short history promise, one after another.
 use Prim.Native.Nat.{ℕ}
 use mathlib.Core.Path.{_≡_, refl, sym, _∙_, subst}
-use mathlib.Core.List.{List, [], _∷_, _++_}
+use mathlib.Core.List.{List, _++_}
 use Rattle.octets.specs.Refusal.{Said}
 use Rattle.reorder_rules.specs.Turn.{Turn}
 use Rattle.reorder_session.specs.declared.Session.{Session}
 use Rattle.reorder_session.specs.Calls.{offerOf, drainOf, Offers, Drains}
 use Rattle.reorder_offer.specs.Opening.{Opens, noSession}
 use Rattle.reorder_histories.specs.History.{offerTells, drainTells, MadeBy}
-use Rattle.reorder_histories.specs.Histories.{State}
 use Rattle.reorder_steps.specs.Short.{firstCall, secondCall, Short}
 
 -- an opening that is given a session of all zeros

@@ -13,7 +13,7 @@ use Rattle.reorder_rules.proofs.Turns.{Moves}
 use Rattle.reorder_session.specs.declared.Session.{Session}
 use Rattle.reorder_session.specs.Calls.{turn}
 use Rattle.reorder_turn.specs.declared.Description.{Description}
-use Rattle.reorder_turn.specs.Described.{none, described, describedAll}
+use Rattle.reorder_turn.specs.Described.{noDescription, described, describedAll}
 
 -- what a turn tells of what is held
 pub data Shows (s : Session) : Turn → Type 0 where
@@ -63,8 +63,8 @@ unfolding describedAll
 described-last ts t h =
     let n : ℕ = 32 - length (ts ++ (t ∷ [])) in
     let e : 32 - length ts ≡ suc n = omega (arith, length-append ts (t ∷ [])) in
-    ap (λ (k : ℕ). set (map described ts ++ replicate k none) (length ts) (described t)) e
-    ∙ ap (λ (k : ℕ). set (map described ts ++ (none ∷ replicate n none)) k (described t)) (sym (length-map ts))
-    ∙ set-last (map described ts) (replicate n none) none (described t)
-    ∙ sym (append-assoc (map described ts) (described t ∷ []) (replicate n none))
-    ∙ ap (λ (l : List Description). l ++ replicate n none) (sym (map-last ts t))
+    ap (λ (k : ℕ). set (map described ts ++ replicate k noDescription) (length ts) (described t)) e
+    ∙ ap (λ (k : ℕ). set (map described ts ++ (noDescription ∷ replicate n noDescription)) k (described t)) (sym (length-map ts))
+    ∙ set-last (map described ts) (replicate n noDescription) noDescription (described t)
+    ∙ sym (append-assoc (map described ts) (described t ∷ []) (replicate n noDescription))
+    ∙ ap (λ (l : List Description). l ++ replicate n noDescription) (sym (map-last ts t))

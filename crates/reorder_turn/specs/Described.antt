@@ -8,19 +8,19 @@ use Rattle.reorder_rules.specs.Turn.{Turn, packet, missing, waiting}
 use Rattle.reorder_turn.specs.declared.Description.{Description}
 
 -- the description of an answer: kind 1 a packet, 2 a missing position; all zeros for none
-abbrev pub none : Description
-none = record { kind = 0; position = 0 }
+abbrev pub noDescription : Description
+noDescription = record { kind = 0; position = 0 }
 
 abbrev pub described : Turn → Description
 described (packet p) = record { kind = 1; position = p }
 described (missing p) = record { kind = 2; position = p }
-described waiting = none
+described waiting = noDescription
 
 -- the i-th answer from 0 is described, and descriptions past the count are all zeros
 unfoldable pub describedAll : List Turn → List Description
-describedAll ts = map described ts ++ replicate (positions - length ts) none
+describedAll ts = map described ts ++ replicate (positions - length ts) noDescription
 
 -- the description of what a serve says; of a refusal, all zeros
 abbrev pub descriptionOf : Said Turn → Description
-descriptionOf (refused n) = none
+descriptionOf (refused n) = noDescription
 descriptionOf (answered t) = described t

@@ -25,7 +25,7 @@ use Rattle.pedr_fields.specs.Fields.{timeOf}
 use Rattle.pedr_check.specs.Refusal.{recordRefusal}
 use Rattle.position.specs.declared.Anchor.{Anchor}
 use Rattle.position.specs.Position.{position, publishedTolerance}
-use Rattle.window.specs.Window.{holding, firstWindow}
+use Rattle.window.specs.Window.{holding, firstWindow, noWindow}
 use Rattle.reorder_session.specs.declared.Session.{Session}
 use Rattle.reorder_session.specs.Calls.{offerDue, turn, serveRefusal}
 use Rattle.reorder_rules.specs.Turn.{missing, waiting}
@@ -88,7 +88,7 @@ holdingOnly p = record {
   anchor = record { count = 0; time = 0 };
   «sum_word» = 53;
   threshold = 3;
-  window = holding (record { start = 0; marks = 0 }) p;
+  window = holding noWindow p;
 }
 
 pub record Cases : Type 0 where

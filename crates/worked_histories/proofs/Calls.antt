@@ -25,10 +25,10 @@ use Rattle.reorder_offer.specs.Opening.{opened, openDue, openOf}
 use Rattle.reorder_rules.proofs.Said.{said-is, left, left-refused}
 use Rattle.reorder_rules.proofs.Turns.{Split, turns-split}
 use Rattle.reorder_rules.proofs.Taken.{taken-offer}
-use Rattle.reorder_rules.specs.Turn.{Turn, packet, waiting}
+use Rattle.reorder_rules.specs.Turn.{Turn, packet, waiting, bytesAt}
 use Rattle.reorder_turn.proofs.Turns.{shows}
 use Rattle.reorder_rules.proofs.Ready.{serve-ready}
-use Rattle.reorder_laws.specs.Serves.{answerAt, bytesAt}
+use Rattle.reorder_laws.specs.Serves.{answerAt}
 use Rattle.reorder_laws.proofs.Kept.{calls-keep}
 use Rattle.reorder_laws.proofs.Pieces.{piece-same, slot-length}
 use Rattle.reorder_laws.proofs.Bytes.{bytes-come-out}
