@@ -1,12 +1,10 @@
 -- Laws of the count that goes on from chunk to chunk.
 use Prim.Native.Nat.{ℕ, _+_, _-_, _*_, _<_, _≤_}
-use mathlib.Core.Path.{_≡_, refl, sym, ap, _∙_}
+use mathlib.Core.Path.{_≡_, refl, sym, ap, subst, _∙_}
 use mathlib.Core.Bool.{Bool, true, false, false≢true}
 use mathlib.Core.List.{List}
 use native.Mathlib.Omega.{arith}
 use lib.ListN.{length, take}
-use Rattle.program_io.specs.declared.Chunk.{Chunk}
-use Rattle.program_io.specs.declared.Chunk.the-variants.{Full}
 use Rattle.program_io.specs.declared.Printed.{Printed}
 use Rattle.program_io.specs.declared.Next.{Next}
 use Rattle.program_io.specs.declared.Next.the-variants.{Continue, Close, Stop, TooLong}
@@ -36,17 +34,16 @@ records-high TooLong done n = omega arith
 
 -- a chunk, from what its calls answered
 pub printed-chunk : (p : Progress) (full done read : ℕ) (buf out text : List ℕ) → length buf ≡ chunkSize → ChunkWithin (length buf) (p .chunk)
-    → read ≡ chunkBytes (length buf) (p .chunk) → text ≡ allLines (take read buf) done → take (p .printed .size) out ≡ text → p .printed .size ≡ length text
+    → read ≡ chunkBytes (p .chunk) → text ≡ allLines (take read buf) done → take (p .printed .size) out ≡ text → TextWritten (p .printed) (length text)
     → p .next ≡ afterChunk full (isWhole (p .printed .written)) (p .chunk) → p .records ≡ recordsAfter (p .next) done read → ChunkPrinted p full done buf out
 printed-chunk p full done read buf out text l w c e t s n d =
-    let k : read ≡ chunkBytes (p .chunk) = c ∙ ap (λ (room : ℕ). chunkBytes room (p .chunk)) l in
-    let b : text ≡ allLines (bytesOf (p .chunk) buf) done = e ∙ ap (λ (m : ℕ). allLines (take m buf) done) k in
+    let b : text ≡ allLines (bytesOf (p .chunk) buf) done = e ∙ ap (λ (m : ℕ). allLines (take m buf) done) c in
     record {
       within = rw l at w;
       text = t ∙ b;
-      size = s ∙ ap length b;
+      written = subst (TextWritten (p .printed)) (ap length b) s;
       next = n;
-      records = d ∙ ap (recordsAfter (p .next) done) k;
+      records = d ∙ ap (recordsAfter (p .next) done) c;
     }
 
 module _ (p : Progress) (full done : ℕ) (buf out : List ℕ) (h : ChunkPrinted p full done buf out) where
@@ -61,10 +58,9 @@ module _ (p : Progress) (full done : ℕ) (buf out : List ℕ) (h : ChunkPrinted
   pub goes-on : isContinue (p .next) ≡ true → done ≡ chunkPieces * full → (p .records ≡ chunkPieces * (full + 1)) × (full < chunksMost - 1)
   goes-on e d =
       let n : p .next ≡ Continue = is-continue (p .next) e in
-      let f = continue-full full (isWhole (p .printed .written)) (p .chunk) (ap isContinue (sym (h .next)) ∙ e) in
-      let r : p .records ≡ recordsAfter Continue done (chunkBytes Full) =
-      h .records ∙ ap (λ (k : Next). recordsAfter k done (chunkBytes (p .chunk))) n
-      ∙ ap (λ (c : Chunk). recordsAfter Continue done (chunkBytes c)) (f .0) in
+      let f = continue-full full chunkSize (isWhole (p .printed .written)) (p .chunk) (h .within) (ap isContinue (sym (h .next)) ∙ e) in
+      let r : p .records ≡ recordsAfter Continue done chunkSize =
+      h .records ∙ ap (λ (k : Next). recordsAfter k done (chunkBytes (p .chunk))) n ∙ ap (recordsAfter Continue done) (f .0) in
       (omega arith, f .1)
 
   -- the last
@@ -84,6 +80,7 @@ module _ (r : Chunks) (buf out : List ℕ) (h : ChunksPrinted r buf out) where
       → FileChecked (record { records = r .last .records; complete = false; full = r .full; chunk = r .last .chunk; printed = r .last .printed })
   not-closed e = record {
     within = h .last .within;
+    written = record { length = refl; within = h .last .written .within; ended = h .last .written .ended };
     complete = sym (ap isClose (sym (h .last .next)) ∙ e);
     most = h .most;
     low = low (r .last) (r .full) (chunkPieces * r .full) buf out (h .last);
@@ -91,11 +88,12 @@ module _ (r : Chunks) (buf out : List ℕ) (h : ChunksPrinted r buf out) where
     pieces = λ w. absurd (false≢true w);
   }
 
-  pub closed : isClose (r .last .next) ≡ true → (complete : Bool) (printed : Printed)
+  pub closed : isClose (r .last .next) ≡ true → (complete : Bool) (printed : Printed) → TextWritten printed (printed .size)
       → complete ≡ isClose (afterChunk (r .full) (isWhole (printed .written)) (r .last .chunk))
       → FileChecked (record { records = r .last .records; complete = complete; full = r .full; chunk = r .last .chunk; printed = printed })
-  closed e complete printed w = record {
+  closed e complete printed t w = record {
     within = h .last .within;
+    written = t;
     complete = w;
     most = h .most;
     low = low (r .last) (r .full) (chunkPieces * r .full) buf out (h .last);

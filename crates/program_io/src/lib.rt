@@ -40,13 +40,13 @@ enum ReadStep {
 }
 
 // What a write came to.
-enum Wrote {
+pub enum Wrote {
     Failed,
     Bytes(usize),
 }
 
 // What the writes of a text came to: one failed, after so many bytes; or all of the text was taken.
-enum Written {
+pub enum Written {
     Failed(usize),
     Whole,
 }
