@@ -1,69 +1,66 @@
 -- Laws of the count that goes on from chunk to chunk.
 use Prim.Native.Nat.{ℕ, _+_, _-_, _*_, _<_, _≤_}
-use mathlib.Core.Path.{_≡_, refl, sym, ap, _∙_}
+use mathlib.Core.Path.{_≡_, refl, sym, ap, subst, _∙_}
 use mathlib.Core.Bool.{Bool, true, false, false≢true}
 use mathlib.Core.List.{List}
 use native.Mathlib.Omega.{arith}
 use lib.ListN.{length, take}
-use Rattle.program_io.specs.declared.Chunk.{Chunk}
-use Rattle.program_io.specs.declared.Chunk.the-variants.{Full}
 use Rattle.program_io.specs.declared.Printed.{Printed}
 use Rattle.program_io.specs.declared.Next.{Next}
 use Rattle.program_io.specs.declared.Next.the-variants.{Continue, Close, Stop, TooLong}
 use Rattle.program_io.specs.Chunk.{ChunkWithin, chunkBytes}
-use Rattle.program_io.specs.Next.{isWhole, chunksMost, nextDue, isContinue, isClose}
+use Rattle.program_io.specs.Written.{TextWritten, isWhole}
+use Rattle.program_io.specs.Next.{chunksMost, afterChunk, isContinue, isClose}
 use Rattle.program_io.proofs.Reading.{count-fits}
 use Rattle.program_io.proofs.Following.{is-continue, is-close, continue-full}
 use Rattle.aedr.specs.Printed.{piecesIn, allLines}
 use Rattle.aedr.specs.Chunks.{chunkPieces, chunkSize}
 use Rattle.aedr_io.specs.declared.Progress.{Progress}
 use Rattle.aedr_io.specs.declared.Chunks.{Chunks}
-use Rattle.aedr_io.specs.Check.{recordsDue, bytesOf, ChunkPrinted, ChunksPrinted, FileChecked}
+use Rattle.aedr_io.specs.Check.{recordsAfter, bytesOf, ChunkPrinted, ChunksPrinted, FileChecked}
 
 -- a chunk adds no piece or all of its own
-due-low : (next : Next) (done n : ℕ) → done ≤ recordsDue next done n
-due-low Continue done n = omega arith
-due-low Close done n = omega arith
-due-low Stop done n = omega arith
-due-low TooLong done n = omega arith
+records-low : (next : Next) (done n : ℕ) → done ≤ recordsAfter next done n
+records-low Continue done n = omega arith
+records-low Close done n = omega arith
+records-low Stop done n = omega arith
+records-low TooLong done n = omega arith
 
-due-high : (next : Next) (done n : ℕ) → recordsDue next done n ≤ done + piecesIn n
-due-high Continue done n = omega arith
-due-high Close done n = omega arith
-due-high Stop done n = omega arith
-due-high TooLong done n = omega arith
+records-high : (next : Next) (done n : ℕ) → recordsAfter next done n ≤ done + piecesIn n
+records-high Continue done n = omega arith
+records-high Close done n = omega arith
+records-high Stop done n = omega arith
+records-high TooLong done n = omega arith
 
 -- a chunk, from what its calls answered
 pub printed-chunk : (p : Progress) (full done read : ℕ) (buf out text : List ℕ) → length buf ≡ chunkSize → ChunkWithin (length buf) (p .chunk)
-    → read ≡ chunkBytes (length buf) (p .chunk) → text ≡ allLines (take read buf) done → take (p .printed .size) out ≡ text → p .printed .size ≡ length text
-    → p .next ≡ nextDue full (isWhole (p .printed)) (p .chunk) → p .records ≡ recordsDue (p .next) done read → ChunkPrinted p full done buf out
+    → read ≡ chunkBytes (p .chunk) → text ≡ allLines (take read buf) done → take (p .printed .size) out ≡ text → TextWritten (p .printed) (length text)
+    → p .next ≡ afterChunk full (isWhole (p .printed .written)) (p .chunk) → p .records ≡ recordsAfter (p .next) done read → ChunkPrinted p full done buf out
 printed-chunk p full done read buf out text l w c e t s n d =
-    let k : read ≡ chunkBytes chunkSize (p .chunk) = c ∙ ap (λ (room : ℕ). chunkBytes room (p .chunk)) l in
-    let b : text ≡ allLines (bytesOf (p .chunk) buf) done = e ∙ ap (λ (m : ℕ). allLines (take m buf) done) k in
+    let b : text ≡ allLines (bytesOf (p .chunk) buf) done = e ∙ ap (λ (m : ℕ). allLines (take m buf) done) c in
     record {
       within = rw l at w;
       text = t ∙ b;
-      size = s ∙ ap length b;
+      written = subst (TextWritten (p .printed)) (ap length b) s;
       next = n;
-      records = d ∙ ap (recordsDue (p .next) done) k;
+      records = d ∙ ap (recordsAfter (p .next) done) c;
     }
 
 module _ (p : Progress) (full done : ℕ) (buf out : List ℕ) (h : ChunkPrinted p full done buf out) where
   low : done ≤ p .records
-  low = omega (arith, h .records, due-low (p .next) done (chunkBytes chunkSize (p .chunk)))
+  low = omega (arith, h .records, records-low (p .next) done (chunkBytes (p .chunk)))
 
   high : p .records ≤ done + chunkPieces
   high =
-      omega (arith, h .records, due-high (p .next) done (chunkBytes chunkSize (p .chunk)), count-fits (p .chunk) chunkSize (h .within))
+      omega (arith, h .records, records-high (p .next) done (chunkBytes (p .chunk)), count-fits (p .chunk) chunkSize (h .within))
 
   -- one that another follows
   pub goes-on : isContinue (p .next) ≡ true → done ≡ chunkPieces * full → (p .records ≡ chunkPieces * (full + 1)) × (full < chunksMost - 1)
   goes-on e d =
       let n : p .next ≡ Continue = is-continue (p .next) e in
-      let f = continue-full full (isWhole (p .printed)) (p .chunk) (ap isContinue (sym (h .next)) ∙ e) in
-      let r : p .records ≡ recordsDue Continue done (chunkBytes chunkSize Full) =
-      h .records ∙ ap (λ (k : Next). recordsDue k done (chunkBytes chunkSize (p .chunk))) n
-      ∙ ap (λ (c : Chunk). recordsDue Continue done (chunkBytes chunkSize c)) (f .0) in
+      let f = continue-full full chunkSize (isWhole (p .printed .written)) (p .chunk) (h .within) (ap isContinue (sym (h .next)) ∙ e) in
+      let r : p .records ≡ recordsAfter Continue done chunkSize =
+      h .records ∙ ap (λ (k : Next). recordsAfter k done (chunkBytes (p .chunk))) n ∙ ap (recordsAfter Continue done) (f .0) in
       (omega arith, f .1)
 
   -- the last
@@ -71,10 +68,10 @@ module _ (p : Progress) (full done : ℕ) (buf out : List ℕ) (h : ChunkPrinted
   ends e d l = record { last = rw d at h; ended = e; most = omega (arith, high) }
 
   -- the last that ended the input
-  pub all-pieces : isClose (p .next) ≡ true → done ≡ chunkPieces * full → p .records ≡ piecesIn (chunkSize * full + chunkBytes chunkSize (p .chunk))
+  pub all-pieces : isClose (p .next) ≡ true → done ≡ chunkPieces * full → p .records ≡ piecesIn (chunkSize * full + chunkBytes (p .chunk))
   all-pieces e d =
-      let r : p .records ≡ recordsDue Close done (chunkBytes chunkSize (p .chunk)) =
-      h .records ∙ ap (λ (k : Next). recordsDue k done (chunkBytes chunkSize (p .chunk))) (is-close (p .next) e) in
+      let r : p .records ≡ recordsAfter Close done (chunkBytes (p .chunk)) =
+      h .records ∙ ap (λ (k : Next). recordsAfter k done (chunkBytes (p .chunk))) (is-close (p .next) e) in
       omega arith
 
 -- the check, before its closing line and with it
@@ -83,6 +80,7 @@ module _ (r : Chunks) (buf out : List ℕ) (h : ChunksPrinted r buf out) where
       → FileChecked (record { records = r .last .records; complete = false; full = r .full; chunk = r .last .chunk; printed = r .last .printed })
   not-closed e = record {
     within = h .last .within;
+    written = record { length = refl; within = h .last .written .within; ended = h .last .written .ended };
     complete = sym (ap isClose (sym (h .last .next)) ∙ e);
     most = h .most;
     low = low (r .last) (r .full) (chunkPieces * r .full) buf out (h .last);
@@ -90,11 +88,12 @@ module _ (r : Chunks) (buf out : List ℕ) (h : ChunksPrinted r buf out) where
     pieces = λ w. absurd (false≢true w);
   }
 
-  pub closed : isClose (r .last .next) ≡ true → (complete : Bool) (printed : Printed)
-      → complete ≡ isClose (nextDue (r .full) (isWhole printed) (r .last .chunk))
+  pub closed : isClose (r .last .next) ≡ true → (complete : Bool) (printed : Printed) → TextWritten printed (printed .size)
+      → complete ≡ isClose (afterChunk (r .full) (isWhole (printed .written)) (r .last .chunk))
       → FileChecked (record { records = r .last .records; complete = complete; full = r .full; chunk = r .last .chunk; printed = printed })
-  closed e complete printed w = record {
+  closed e complete printed t w = record {
     within = h .last .within;
+    written = t;
     complete = w;
     most = h .most;
     low = low (r .last) (r .full) (chunkPieces * r .full) buf out (h .last);

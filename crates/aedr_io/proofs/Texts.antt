@@ -19,10 +19,10 @@ stored text s t r e q h =
     ap (take r) (q ∙ put-splice s text 0 (omega arith)) ∙ take-at text (drop (0 + length text) s) r (sym e)
 
 -- a chunk has room for its lines, and the total for its own
-pub lines-due : (buf : List ℕ) (n done room : ℕ) → length buf ≡ chunkSize → room ≡ chunkRoom → done ≤ chunkPieces * chunksMost
+pub report-lines : (buf : List ℕ) (n done room : ℕ) → length buf ≡ chunkSize → room ≡ chunkRoom → done ≤ chunkPieces * chunksMost
     → report (take n buf) done room ≡ allLines (take n buf) done
-lines-due buf n done room l k h =
+report-lines buf n done room l k h =
     ap (report (take n buf) done) k ∙ chunk-lines (take n buf) done (omega (arith, length-take n buf)) (omega (arith, length-take n buf))
 
-pub total-due : (n room : ℕ) → room ≡ chunkRoom → closing n room ≡ total n
-total-due n room k = closing-total n room (omega arith)
+pub closing-text : (n room : ℕ) → room ≡ chunkRoom → closing n room ≡ total n
+closing-text n room k = closing-total n room (omega arith)

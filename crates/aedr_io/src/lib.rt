@@ -3,8 +3,12 @@
 // a chunk by how its reads ended and whether its text was written. By `aedr::chunks_print_the_whole` these texts, one after the other, are what is
 // to be printed for the whole input.
 //
-// No contract can say what is read or written. That the bytes in `buf` come from the descriptor and that the texts go to standard output stays
-// unproved: a program that reads nothing and writes nothing would meet the promise of `check_file`. tests/program.rs runs the program.
+// No contract can say what is read or written. So this stays unproved, and tests/program.rs runs the program:
+// - that the bytes in `buf` come from the descriptor;
+// - which bytes go to standard output: the contracts say what stands in `out` when it is printed, and that the length of the text handed to
+//   `program_io::print` is that of the text there, not that these bytes are what is written;
+// - that a failure is told.
+// A program that reads nothing and writes nothing would meet the promise of `check_file`.
 use program_io::Chunk;
 use program_io::Next;
 use program_io::Printed;
@@ -13,12 +17,12 @@ ghost use Prim.Native.Nat.{_*_, _≤_};
 ghost use lib.ListN.{length};
 ghost use Rattle.program_io.specs.Next.{chunksMost};
 ghost use Rattle.aedr.specs.Chunks.{chunkPieces, chunkSize, chunkRoom};
-ghost use Rattle.aedr_io.specs.Check.{recordsDue, ChunkPrinted, ChunksPrinted, Ran, FileChecked};
+ghost use Rattle.aedr_io.specs.Check.{recordsAfter, ChunkPrinted, ChunksPrinted, Ran, FileChecked};
 
 // The pieces whose lines are written, with `records` before a chunk of `read` bytes.
 fn records_after(next: Next, records: u64, read: usize) -> u64
     requires { ⌜ records ≤ chunkPieces * chunksMost ⌝ }
-    ensures { λ r. ⌜ r ≡ recordsDue next records read ⌝ }
+    ensures { λ r. ⌜ r ≡ recordsAfter next records read ⌝ }
 {
     let pieces = aedr::count_pieces(read) as u64;
     match next {
@@ -43,7 +47,7 @@ fn print_chunk(fd: i32, full: u64, records: u64, buf: &mut [u8], out: &mut [u8])
     ensures { λ r. ⌜ ChunkPrinted r full records (now (buf .exit)) (now (out .exit)) ⌝ }
 {
     let chunk = program_io::fill(fd, buf);
-    let read = program_io::count(chunk, buf.len());
+    let read = program_io::count(chunk);
     let text = aedr::report(&buf[..read], records, out);
     let printed = program_io::print(&out[..text]);
     let next = program_io::after_chunk(full, chunk, printed);

@@ -1,16 +1,20 @@
 // Reading and writing, for the programs that users run. The calls stand in `read_once` and `write_once` alone, and what is decided by their answers in functions
-// with an equation. A failure is told on standard error by the name of the call and errno's text, as `read: Is a directory`.
+// with an equation: the loops in `fill` and `write` only pass values on. A failure is told on standard error by the name of the call and errno's text, as
+// `read: Is a directory`.
 //
-// No contract can say what a call of the system moves. So it stays unproved that the bytes in a buffer come from the descriptor, that a text goes to
-// standard output, and that a failure is told; tests/program.rs runs a program on inputs and outputs that fail.
+// No contract can say what a call of the system moves. So this stays unproved, and tests/program.rs runs a program on inputs and outputs that fail:
+// - that the bytes in a buffer come from the descriptor: `fill` promises how many of them are a chunk's, not which they are;
+// - which bytes go to standard output: `print` promises the length of the text that was handed to it and what its last write's answer means, not that the
+//   bytes of this text are what is written;
+// - that a failure, or an input that is too long, is told on standard error.
 use libc::STDERR_FILENO;
 use libc::STDOUT_FILENO;
 ghost use mathlib.Core.Path.{_≡_};
-ghost use mathlib.Core.Bool.{true};
-ghost use Prim.Native.Nat.{_+_, _<_, _≤_, _^_};
+ghost use Prim.Native.Nat.{_+_, _≤_};
 ghost use lib.ListN.{length};
-ghost use Rattle.program_io.specs.Chunk.{readMeant, ReadWithin, bytesIn, stepDue, ChunkWithin, chunkBytes};
-ghost use Rattle.program_io.specs.Next.{isWhole, nextDue, isContinue, isClose};
+ghost use Rattle.program_io.specs.Chunk.{readMeaning, ReadWithin, ReadsWithin, afterRead, ChunkWithin, chunkBytes};
+ghost use Rattle.program_io.specs.Written.{writeMeaning, WroteWithin, bytesTaken, afterWrite, TextWritten, isWhole};
+ghost use Rattle.program_io.specs.Next.{afterFull, afterChunk, isContinue, isClose};
 
 // The most chunks that are read: a loop has to end, and nothing says that the input does.
 pub const CHUNKS: u64 = 1 << 40;
@@ -22,23 +26,43 @@ enum Read {
     Bytes(usize),
 }
 
-// What the reads of a chunk came to: a read failed; they filled the buffer; or the input ended after so many bytes.
+// What the reads of a chunk came to: a read failed; they filled the buffer, by so many bytes; or the input ended after so many.
 pub enum Chunk {
     Failed,
-    Full,
+    Full(usize),
     Last(usize),
 }
 
 // What follows a read: another, after so many bytes, or none.
-enum Step {
+enum ReadStep {
     More(usize),
     Done(Chunk),
 }
 
-// What printing a text came to: its length, and how many of its bytes were taken.
+// What a write came to.
+pub enum Wrote {
+    Failed,
+    Bytes(usize),
+}
+
+// What the writes of a text came to: one failed, after so many bytes; or all of the text was taken.
+pub enum Written {
+    Failed(usize),
+    Whole,
+}
+
+// What follows a write: another, after so many bytes, or none.
+enum WriteStep {
+    More(usize),
+    Done(Written),
+}
+
+// What printing a text came to. For the contracts: the text's length, how many of its bytes were taken before the last write, and what that came to.
 pub struct Printed {
     size: usize,
-    taken: usize,
+    before: usize,
+    last: Wrote,
+    written: Written,
 }
 
 // What follows a chunk: another chunk; the closing text, for the input has ended; nothing, for a read or a write failed; or nothing, for CHUNKS were
@@ -51,8 +75,8 @@ pub enum Next {
 }
 
 // What a read's answer means.
-fn meaning(got: isize, rest: &[u8]) -> Read
-    ensures { λ r. ⌜ r ≡ readMeant got (length (now (rest .entry))) ⌝ }
+fn read_meaning(got: isize, rest: &[u8]) -> Read
+    ensures { λ r. ⌜ r ≡ readMeaning got (length (now (rest .entry))) ⌝ }
     ensures { λ r. ⌜ ReadWithin (length (now (rest .entry))) r ⌝ }
 {
     if got < 0 {
@@ -69,33 +93,29 @@ fn meaning(got: isize, rest: &[u8]) -> Read
 fn read_once(fd: i32, rest: &mut [u8]) -> Read
     ensures { λ r. ⌜ ReadWithin (length (now (rest .exit))) r ⌝ }
 {
-    let read = meaning(libc::read(fd, rest), rest);
+    let read = read_meaning(libc::read(fd, rest), rest);
     if let Read::Failed = read {
         os::fail(b"read");
     }
     read
 }
 
-// Writes once, and answers how many of the bytes were taken, from the first on. That none was is a failure.
-fn write_once(fd: i32, rest: &[u8]) -> usize
-    ensures { λ r. ⌜ r ≤ length (now (rest .entry)) ⌝ }
-{
-    let taken = io::count(libc::write(fd, rest), rest);
-    if taken == 0 {
-        os::fail(b"write");
-    }
-    taken
-}
-
-// What follows a read after `count` bytes.
-fn after_read(count: usize, read: Read) -> Step
-    requires { ⌜ count + bytesIn read < 2 ^ 64 ⌝ }
-    ensures { λ r. ⌜ r ≡ stepDue count read ⌝ }
+// What follows a read after `before` bytes, in a buffer of `room` bytes.
+fn after_read(before: usize, read: Read, room: usize) -> ReadStep
+    requires { ⌜ ReadsWithin before read room ⌝ }
+    ensures { λ r. ⌜ r ≡ afterRead before read room ⌝ }
 {
     match read {
-        Read::Failed => Step::Done(Chunk::Failed),
-        Read::End => Step::Done(Chunk::Last(count)),
-        Read::Bytes(more) => Step::More(count + more),
+        Read::Failed => ReadStep::Done(Chunk::Failed),
+        Read::End => ReadStep::Done(Chunk::Last(before)),
+        Read::Bytes(more) => {
+            let count = before + more;
+            let left = room - count;
+            if left > 0 {
+                return ReadStep::More(count);
+            }
+            ReadStep::Done(Chunk::Full(count))
+        }
     }
 }
 
@@ -103,81 +123,141 @@ fn after_read(count: usize, read: Read) -> Step
 pub fn fill(fd: i32, buf: &mut [u8]) -> Chunk
     ensures { λ r. ⌜ ChunkWithin (length (now (buf .exit))) r ⌝ }
 {
-    let mut count: usize = 0;
-    while count < buf.len() {
-        let read = read_once(fd, &mut buf[count..]);
-        let step = after_read(count, read);
+    let mut before: usize = 0;
+    let mut last = Read::Bytes(0);
+    loop {
+        let step = after_read(before, last, buf.len());
         match step {
-            Step::More(n) => {
-                count = n;
+            ReadStep::More(count) => {
+                last = read_once(fd, &mut buf[count..]);
+                before = count;
             }
-            Step::Done(chunk) => {
+            ReadStep::Done(chunk) => {
                 return chunk;
             }
         }
     }
-    Chunk::Full
 }
 
-// How many bytes of a buffer of `room` bytes are the chunk's, from the first on. After a failed read none is.
-pub fn count(chunk: Chunk, room: usize) -> usize
-    ensures { λ r. ⌜ r ≡ chunkBytes room chunk ⌝ }
+// How many bytes of a buffer are the chunk's, from the first on. After a failed read none is.
+pub fn count(chunk: Chunk) -> usize
+    ensures { λ r. ⌜ r ≡ chunkBytes chunk ⌝ }
 {
     match chunk {
         Chunk::Failed => 0,
-        Chunk::Full => room,
+        Chunk::Full(count) => count,
         Chunk::Last(count) => count,
     }
 }
 
-// Writes until all of the text is taken or a write fails, and answers how many bytes were taken.
-fn write(fd: i32, text: &[u8]) -> usize
-    ensures { λ r. ⌜ r ≤ length (now (text .entry)) ⌝ }
+// What a write's answer means. That no byte was taken is a failure.
+fn write_meaning(got: isize, rest: &[u8]) -> Wrote
+    ensures { λ r. ⌜ r ≡ writeMeaning got (length (now (rest .entry))) ⌝ }
+    ensures { λ r. ⌜ WroteWithin (length (now (rest .entry))) r ⌝ }
 {
-    let mut count: usize = 0;
-    while count < text.len() {
-        let taken = write_once(fd, &text[count..]);
-        if taken == 0 {
-            return count;
-        }
-        count = count + taken;
+    let count = io::count(got, rest);
+    if count == 0 {
+        return Wrote::Failed;
     }
-    count
+    Wrote::Bytes(count)
+}
+
+// Writes once, from the first byte on. A failure is told at once, while errno is its own.
+fn write_once(fd: i32, rest: &[u8]) -> Wrote
+    ensures { λ r. ⌜ WroteWithin (length (now (rest .entry))) r ⌝ }
+{
+    let wrote = write_meaning(libc::write(fd, rest), rest);
+    if let Wrote::Failed = wrote {
+        os::fail(b"write");
+    }
+    wrote
+}
+
+// What follows a write after `before` bytes, of a text of `size` bytes.
+fn after_write(before: usize, wrote: Wrote, size: usize) -> WriteStep
+    requires { ⌜ before + bytesTaken wrote ≤ size ⌝ }
+    ensures { λ r. ⌜ r ≡ afterWrite before wrote size ⌝ }
+{
+    match wrote {
+        Wrote::Failed => WriteStep::Done(Written::Failed(before)),
+        Wrote::Bytes(more) => {
+            let count = before + more;
+            let left = size - count;
+            if left > 0 {
+                return WriteStep::More(count);
+            }
+            WriteStep::Done(Written::Whole)
+        }
+    }
+}
+
+// Writes until all of the text is taken or a write fails. An empty text needs no write.
+fn write(fd: i32, text: &[u8]) -> Printed
+    ensures { λ r. ⌜ TextWritten r (length (now (text .entry))) ⌝ }
+{
+    let size = text.len();
+    let mut before: usize = 0;
+    let mut last = Wrote::Bytes(0);
+    loop {
+        let step = after_write(before, last, size);
+        match step {
+            WriteStep::More(count) => {
+                last = write_once(fd, &text[count..]);
+                before = count;
+            }
+            WriteStep::Done(written) => {
+                return Printed {
+                    size,
+                    before,
+                    last,
+                    written,
+                };
+            }
+        }
+    }
 }
 
 // Writes the text to standard output.
 pub fn print(text: &[u8]) -> Printed
-    ensures { λ r. ⌜ (r .size ≡ length (now (text .entry))) × (r .taken ≤ r .size) ⌝ }
+    ensures { λ r. ⌜ TextWritten r (length (now (text .entry))) ⌝ }
 {
-    Printed {
-        size: text.len(),
-        taken: write(STDOUT_FILENO, text),
-    }
+    write(STDOUT_FILENO, text)
 }
 
-// What follows a full chunk that was written, after `full` others. An input that is too long is told on standard error.
+// What follows a full chunk that was written, after `full` others.
 fn after_full(full: u64) -> Next
-    ensures { λ r. ⌜ r ≡ nextDue full true Chunk.Full ⌝ }
+    ensures { λ r. ⌜ r ≡ afterFull full ⌝ }
 {
     if full < CHUNKS - 1 {
         return Next::Continue;
     }
-    write(STDERR_FILENO, b"input too long\n");
     Next::TooLong
 }
 
-// What follows a chunk after `full` others, once its text was printed.
-pub fn after_chunk(full: u64, chunk: Chunk, printed: Printed) -> Next
-    ensures { λ r. ⌜ r ≡ nextDue full (isWhole printed) chunk ⌝ }
+// What follows a chunk after `full` others, by how its reads ended and how its text was written.
+fn next_after(full: u64, chunk: Chunk, written: Written) -> Next
+    ensures { λ r. ⌜ r ≡ afterChunk full (isWhole written) chunk ⌝ }
 {
-    if printed.taken != printed.size {
+    if let Written::Failed(_) = written {
         return Next::Stop;
     }
     match chunk {
         Chunk::Failed => Next::Stop,
-        Chunk::Full => after_full(full),
+        Chunk::Full(_) => after_full(full),
         Chunk::Last(_) => Next::Close,
     }
+}
+
+// What follows a chunk after `full` others, once its text was printed. An input that is too long is told on standard error.
+pub fn after_chunk(full: u64, chunk: Chunk, printed: Printed) -> Next
+    ensures { λ r. ⌜ r ≡ afterChunk full (isWhole (printed .written)) chunk ⌝ }
+{
+    let written = printed.written;
+    let next = next_after(full, chunk, written);
+    if let Next::TooLong = next {
+        write(STDERR_FILENO, b"input too long\n");
+    }
+    next
 }
 
 // Whether another chunk follows.

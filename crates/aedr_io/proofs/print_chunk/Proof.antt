@@ -1,15 +1,16 @@
 -- The text is the lines of the chunk's bytes.
 use Prim.Native.Nat.{ℕ}
-use mathlib.Core.Path.{sym, _∙_}
+use mathlib.Core.Path.{sym, subst, _∙_}
 use mathlib.Core.List.{List}
 use native.Mathlib.Omega.{arith}
 use lib.ListN.{length, take}
 use lib.Seq.{length-take-le}
 use denote.Ref.{now}
 use borrow.Author.Needs.{needs}
+use Rattle.program_io.specs.Written.{TextWritten}
 use Rattle.program_io.proofs.Reading.{count-fits}
 use Rattle.aedr.specs.Chunks.{report}
-use Rattle.aedr_io.proofs.Texts.{stored, lines-due}
+use Rattle.aedr_io.proofs.Texts.{stored, report-lines}
 use Rattle.aedr_io.proofs.Printing.{printed-chunk}
 use Rattle.aedr_io.proofs.print_chunk.Statement.{statement}
 use Rattle.aedr_io.proofs.print_chunk.Tie as tie
@@ -62,12 +63,12 @@ returns c =
     let x = c .before .after-chunk in
     let d = c .records-after in
     let l = f .kept .1 .0 ∙ s .pre .0 in
-    let z = t .ensures .0 ∙ sym (p .ensures .1 .1) in
+    let z = t .ensures .length ∙ sym (p .ensures .1 .1) in
     let text : List ℕ = report (take (n .result) (f .last .1 .0)) (a .records) (length (now (a .out))) in
     printed-chunk _ (a .full) (a .records) (n .result) (f .last .1 .0) _ text l (f .ensures) (n .ensures)
-    (lines-due (f .last .1 .0) (n .result) (a .records) (length (now (a .out))) l (s .pre .1) (s .pre .2))
+    (report-lines (f .last .1 .0) (n .result) (a .records) (length (now (a .out))) l (s .pre .1) (s .pre .2))
     (stored text (now (a .out)) _ (t .result .size) (z ∙ p .ensures .0 .0) (p .ensures .0 .1) (omega (arith, z, p .ensures .1 .0, p .kept .1 .1 .0)))
-    (z ∙ p .ensures .0 .0) (x .ensures) (d .ensures)
+    (subst (TextWritten (t .result)) (sym (p .ensures .1 .1) ∙ p .ensures .0 .0) (t .ensures)) (x .ensures) (d .ensures)
 
 pub print-chunk-spec : {M : Type 1} → statement M
 print-chunk-spec =

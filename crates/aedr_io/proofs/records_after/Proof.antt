@@ -4,16 +4,16 @@ use mathlib.Core.Path.{_≡_, refl, sym, ap, _∙_}
 use borrow.Author.Needs.{needs}
 use Rattle.program_io.specs.declared.Next.{Next}
 use Rattle.aedr.specs.Printed.{piecesIn}
-use Rattle.aedr_io.specs.Check.{recordsDue}
+use Rattle.aedr_io.specs.Check.{recordsAfter}
 use Rattle.aedr_io.proofs.records_after.Statement.{statement}
 use Rattle.aedr_io.proofs.records_after.Tie as tie
 
 -- the pieces of the chunk are added
 added : (s : tie.Start) (pieces : ℕ) → pieces ≡ piecesIn (s .args .read) → (next : Next) → s .args .next ≡ next
-    → recordsDue next (s .args .records) (s .args .read) ≡ s .args .records + piecesIn (s .args .read)
-    → s .args .records + pieces ≡ recordsDue (s .args .next) (s .args .records) (s .args .read)
+    → recordsAfter next (s .args .records) (s .args .read) ≡ s .args .records + piecesIn (s .args .read)
+    → s .args .records + pieces ≡ recordsAfter (s .args .next) (s .args .records) (s .args .read)
 added s pieces e next q d =
-    ap (λ (k : ℕ). s .args .records + k) e ∙ sym d ∙ ap (λ (x : Next). recordsDue x (s .args .records) (s .args .read)) (sym q)
+    ap (λ (k : ℕ). s .args .records + k) e ∙ sym d ∙ ap (λ (x : Next). recordsAfter x (s .args .records) (s .args .read)) (sym q)
 
 count-pieces-requires : tie.Need-count-pieces-requires
 count-pieces-requires c κs = search needs

@@ -12,15 +12,8 @@ sub-if1 c = search needs
 returns : tie.Need-returns
 returns c = rw (lt-ltb (c .before .args .full) (chunksMost - 1) (c .if1 .taken))
 
-slice-aggregate-write : tie.Need-slice-aggregate-write
-slice-aggregate-write c = search needs
-
-write-requires : tie.Need-write-requires
-write-requires c κs = search needs
-
 returns-2 : tie.Need-returns-2
-returns-2 c = rw (le-ltb (c .before .before .before .args .full) (chunksMost - 1) (c .before .before .if1 .left))
+returns-2 c = rw (le-ltb (c .before .args .full) (chunksMost - 1) (c .if1 .left))
 
 pub after-full-spec : {M : Type 1} → statement M
-after-full-spec =
-    tie.close (tie.spec sub-if1 returns slice-aggregate-write write-requires returns-2)
+after-full-spec = tie.close (tie.spec sub-if1 returns returns-2)

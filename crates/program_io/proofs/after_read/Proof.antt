@@ -1,8 +1,11 @@
 -- What each of a read's answers makes of the chunk.
-use mathlib.Core.Path.{sym, ap}
+use Prim.Native.Nat.{_+_, _≤_}
+use mathlib.Core.Path.{sym, ap, subst, _∙_}
 use native.Mathlib.Omega.{arith}
 use borrow.Author.Needs.{needs}
-use Rattle.program_io.specs.Chunk.{bytesIn, stepDue}
+use Rattle.program_io.specs.declared.Read.{Read}
+use Rattle.program_io.specs.Chunk.{ReadsWithin, afterRead}
+use Rattle.program_io.proofs.Reading.{bytes-more, bytes-full}
 use Rattle.program_io.proofs.after_read.Statement.{statement}
 use Rattle.program_io.proofs.after_read.Tie as tie
 
@@ -15,18 +18,46 @@ enum-told-2 c = search needs
 enum-known-read : tie.Need-enum-known-read
 enum-known-read c = search needs
 
-add-t7 : tie.Need-add-t7
-add-t7 c = omega (arith, ap bytesIn (c .before .read .given .1))
+add-count : tie.Need-add-count
+add-count c =
+    let a = c .before .before .before in
+    let h = subst (λ (r : Read). ReadsWithin (a .args .before) r (a .args .room)) (c .before .read .given .1) (a .pre) in
+    omega (arith, h, a .fits .room)
+
+sub-left : tie.Need-sub-left
+sub-left c =
+    let a = c .before .before .before in
+    let h = subst (λ (r : Read). ReadsWithin (a .args .before) r (a .args .room)) (c .before .read .given .1) (a .pre) in
+    omega (arith, h)
 
 returns : tie.Need-returns
-returns c = ap (stepDue (c .before .before .args .count)) (sym (c .enum-told .given .1))
+returns c =
+    let a = c .before .before .before .before .args in
+    bytes-more (a .before) _ (a .room) (omega (arith, c .if1 .taken)) ∙ ap (λ (r : Read). afterRead (a .before) r (a .room)) (sym (c .before .before .read .given .1))
 
 returns-2 : tie.Need-returns-2
-returns-2 c = ap (stepDue (c .before .before .args .count)) (sym (c .enum-told2 .given .1))
+returns-2 c =
+    let a = c .before .before .args in ap (λ (r : Read). afterRead (a .before) r (a .room)) (sym (c .enum-told .given .1))
 
 returns-3 : tie.Need-returns-3
-returns-3 c = ap (stepDue (c .before .before .before .args .count)) (sym (c .before .read .given .1))
+returns-3 c =
+    let a = c .before .before .args in ap (λ (r : Read). afterRead (a .before) r (a .room)) (sym (c .enum-told2 .given .1))
+
+returns-4 : tie.Need-returns-4
+returns-4 c =
+    let a = c .before .before .before .before .args in
+    bytes-full (a .before) _ (a .room) (omega (arith, c .if1 .left)) ∙ ap (λ (r : Read). afterRead (a .before) r (a .room)) (sym (c .before .before .read .given .1))
 
 pub after-read-spec : {M : Type 1} → statement M
 after-read-spec =
-    tie.close (tie.spec enum-told enum-told-2 enum-known-read add-t7 returns returns-2 returns-3)
+    tie.close
+    (tie.spec
+    enum-told
+    enum-told-2
+    enum-known-read
+    add-count
+    sub-left
+    returns
+    returns-2
+    returns-3
+    returns-4)

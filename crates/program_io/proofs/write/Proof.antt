@@ -1,24 +1,41 @@
--- The bytes taken so far; each write leaves fewer.
-use Prim.Native.Nat.{_-_, _≤_}
-use lib.ListN.{length}
+-- The last write and the bytes before it; each write that another follows leaves fewer.
+use Prim.Native.Nat.{_+_, _≤_}
+use mathlib.Core.Path.{refl, sym, _∙_}
+use native.Mathlib.Omega.{arith}
 use borrow.Author.Needs.{needs}
+use Rattle.program_io.specs.Written.{bytesTaken}
+use Rattle.program_io.proofs.Writing.{writesLeft, step-more, next-fits, next-less}
 use Rattle.program_io.proofs.write.Statement.{statement}
 use Rattle.program_io.proofs.write.Tie as tie
 
 abbrev Inv-loop : tie.InvT-loop
-Inv-loop fd text count₀ count = count ≤ length text
+Inv-loop fd text size before₀ last₀ before last = before + bytesTaken last ≤ size
 
 abbrev μ-loop : tie.MeasureT-loop
-μ-loop fd text count₀ count = length text - count
+μ-loop fd text size before₀ last₀ before last = writesLeft before last size
 
 loop-holds : tie.Need-loop-holds Inv-loop μ-loop
 loop-holds c = search needs
 
+after-write-requires : tie.Need-after-write-requires Inv-loop μ-loop
+after-write-requires c κs = search needs
+
+enum-known-step : tie.Need-enum-known-step Inv-loop μ-loop
+enum-known-step c = search needs
+
 sub-write-once : tie.Need-sub-write-once Inv-loop μ-loop
-sub-write-once c = search needs
+sub-write-once c =
+    let a = c .before .before .before .after-write in
+    let l = c .before .before .before .before .loop in
+    let m = step-more (l .last) (l .before) _ _ (sym (c .before .step .given .1) ∙ a .ensures) in
+    omega (arith, m .0)
 
 part-write-once-start : tie.Need-part-write-once-start Inv-loop μ-loop
-part-write-once-start c = search needs
+part-write-once-start c =
+    let a = c .before .before .before .after-write in
+    let l = c .before .before .before .before .loop in
+    let m = step-more (l .last) (l .before) _ _ (sym (c .before .step .given .1) ∙ a .ensures) in
+    search needs
 
 part-write-once-end : tie.Need-part-write-once-end Inv-loop μ-loop
 part-write-once-end c = search needs
@@ -26,20 +43,31 @@ part-write-once-end c = search needs
 write-once-requires : tie.Need-write-once-requires Inv-loop μ-loop
 write-once-requires c κs = search needs
 
-returns : tie.Need-returns Inv-loop μ-loop
-returns c = search needs
-
-add-count : tie.Need-add-count Inv-loop μ-loop
-add-count c = search needs
-
 loop-less : tie.Need-loop-less Inv-loop μ-loop
-loop-less c = search needs
+loop-less c =
+    let w = c .write-once in
+    let a = c .before .before .before .before .before .after-write in
+    let l = c .before .before .before .before .before .before .loop in
+    let m = step-more (l .last) (l .before) _ _ (sym (c .before .before .before .step .given .1) ∙ a .ensures) in
+    let n = next-less (w .result) _ _ _ (w .ensures) (m .0) (omega arith) in
+    omega (arith, n, m .1)
 
 loop-again : tie.Need-loop-again Inv-loop μ-loop
-loop-again c = search needs
+loop-again c =
+    let w = c .write-once in
+    let a = c .before .before .before .before .before .after-write in
+    let l = c .before .before .before .before .before .before .loop in
+    let m = step-more (l .last) (l .before) _ _ (sym (c .before .before .before .step .given .1) ∙ a .ensures) in
+    next-fits (w .result) _ _ _ (w .ensures) (m .0) (omega arith)
 
-returns-2 : tie.Need-returns-2 Inv-loop μ-loop
-returns-2 c = search needs
+enum-known-step-2 : tie.Need-enum-known-step-2 Inv-loop μ-loop
+enum-known-step-2 c = search needs
+
+returns : tie.Need-returns Inv-loop μ-loop
+returns c =
+    let a = c .before .before .before .after-write in
+    let l = c .before .before .before .before .loop in
+    record { length = refl; within = l .inv; ended = sym (c .before .step2 .given .1) ∙ a .ensures }
 
 pub write-spec : {M : Type 1} → statement M
 write-spec =
@@ -48,12 +76,13 @@ write-spec =
     Inv-loop
     μ-loop
     loop-holds
+    after-write-requires
+    enum-known-step
     sub-write-once
     part-write-once-start
     part-write-once-end
     write-once-requires
-    returns
-    add-count
     loop-less
     loop-again
-    returns-2)
+    enum-known-step-2
+    returns)

@@ -5,8 +5,8 @@ use mir.Val.{SFits}
 use mir.ValLaws.{toZ-ofZ}
 use borrow.Author.Needs.{needs}
 use Rattle.program_io.proofs.Reading.{read-failed, read-end, read-bytes}
-use Rattle.program_io.proofs.meaning.Statement.{statement}
-use Rattle.program_io.proofs.meaning.Tie as tie
+use Rattle.program_io.proofs.read_meaning.Statement.{statement}
+use Rattle.program_io.proofs.read_meaning.Tie as tie
 
 returns : tie.Need-returns
 returns c =
@@ -29,5 +29,5 @@ returns-3 c =
     let n = c .before .count in
     (read-bytes (a .args .got) _ (n .result) (simp (toZ-ofZ w64) at (c .before .before .if1 .left)) (simp (toZ-ofZ w64) at (n .ensures .1)) (c .if2 .left), (omega arith, omega arith))
 
-pub meaning-spec : {M : Type 1} → statement M
-meaning-spec = tie.close (tie.spec returns count-requires returns-2 returns-3)
+pub read-meaning-spec : {M : Type 1} → statement M
+read-meaning-spec = tie.close (tie.spec returns count-requires returns-2 returns-3)

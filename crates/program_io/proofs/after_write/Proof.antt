@@ -1,0 +1,39 @@
+-- What each of a write's answers makes of the text.
+use mathlib.Core.Path.{sym, ap, _∙_}
+use native.Mathlib.Omega.{arith}
+use borrow.Author.Needs.{needs}
+use Rattle.program_io.specs.declared.Wrote.{Wrote}
+use Rattle.program_io.specs.Written.{bytesTaken, afterWrite}
+use Rattle.program_io.proofs.Writing.{bytes-more, bytes-whole}
+use Rattle.program_io.proofs.after_write.Statement.{statement}
+use Rattle.program_io.proofs.after_write.Tie as tie
+
+enum-told : tie.Need-enum-told
+enum-told c = search needs
+
+enum-known-wrote : tie.Need-enum-known-wrote
+enum-known-wrote c = search needs
+
+add-count : tie.Need-add-count
+add-count c = omega (arith, ap bytesTaken (c .before .wrote .given .1), c .before .before .before .pre)
+
+sub-left : tie.Need-sub-left
+sub-left c = omega (arith, ap bytesTaken (c .before .wrote .given .1), c .before .before .before .pre)
+
+returns : tie.Need-returns
+returns c =
+    let a = c .before .before .before .before .args in
+    bytes-more (a .before) _ (a .size) (omega (arith, c .if1 .taken)) ∙ ap (λ (w : Wrote). afterWrite (a .before) w (a .size)) (sym (c .before .before .wrote .given .1))
+
+returns-2 : tie.Need-returns-2
+returns-2 c =
+    let a = c .before .before .args in ap (λ (w : Wrote). afterWrite (a .before) w (a .size)) (sym (c .enum-told .given .1))
+
+returns-3 : tie.Need-returns-3
+returns-3 c =
+    let a = c .before .before .before .before .args in
+    bytes-whole (a .before) _ (a .size) (omega (arith, c .if1 .left)) ∙ ap (λ (w : Wrote). afterWrite (a .before) w (a .size)) (sym (c .before .before .wrote .given .1))
+
+pub after-write-spec : {M : Type 1} → statement M
+after-write-spec =
+    tie.close (tie.spec enum-told enum-known-wrote add-count sub-left returns returns-2 returns-3)
