@@ -43,7 +43,8 @@ pub record ChunksPrinted (r : Chunks) (buf out : List ℕ) : Type 0 where
   pub most : r .last .records ≤ chunkPieces * chunksMost
 
 -- What can be said of a check without its buffers. Its last chunk filled the buffer or left room. It is complete where the last chunk ended the input and all of
--- the last text was taken, by the answer of its last write. The pieces are those of `full` chunks of 213 and of one of at most as many; those of a complete check are those of all the bytes that were read.
+-- the last text was taken, by the answer of its last write. The pieces are those of `full` chunks of 213 and of one of at most as many; those of a complete
+-- check are those of all the bytes that were read.
 pub record FileChecked (r : Checked) : Type 0 where
   pub within : ChunkWithin chunkSize (r .chunk)
   pub written : TextWritten (r .printed) (r .printed .size)

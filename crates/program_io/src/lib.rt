@@ -110,7 +110,8 @@ fn after_read(before: usize, read: Read, room: usize) -> ReadStep
         Read::End => ReadStep::Done(Chunk::Last(before)),
         Read::Bytes(more) => {
             let count = before + more;
-            if count < room {
+            let left = room - count;
+            if left > 0 {
                 return ReadStep::More(count);
             }
             ReadStep::Done(Chunk::Full(count))
@@ -181,7 +182,8 @@ fn after_write(before: usize, wrote: Wrote, size: usize) -> WriteStep
         Wrote::Failed => WriteStep::Done(Written::Failed(before)),
         Wrote::Bytes(more) => {
             let count = before + more;
-            if count < size {
+            let left = size - count;
+            if left > 0 {
                 return WriteStep::More(count);
             }
             WriteStep::Done(Written::Whole)

@@ -24,10 +24,16 @@ add-count c =
     let h = subst (λ (r : Read). ReadsWithin (a .args .before) r (a .args .room)) (c .before .read .given .1) (a .pre) in
     omega (arith, h, a .fits .room)
 
+sub-left : tie.Need-sub-left
+sub-left c =
+    let a = c .before .before .before in
+    let h = subst (λ (r : Read). ReadsWithin (a .args .before) r (a .args .room)) (c .before .read .given .1) (a .pre) in
+    omega (arith, h)
+
 returns : tie.Need-returns
 returns c =
     let a = c .before .before .before .before .args in
-    bytes-more (a .before) _ (a .room) (c .if1 .taken) ∙ ap (λ (r : Read). afterRead (a .before) r (a .room)) (sym (c .before .before .read .given .1))
+    bytes-more (a .before) _ (a .room) (omega (arith, c .if1 .taken)) ∙ ap (λ (r : Read). afterRead (a .before) r (a .room)) (sym (c .before .before .read .given .1))
 
 returns-2 : tie.Need-returns-2
 returns-2 c =
@@ -40,7 +46,7 @@ returns-3 c =
 returns-4 : tie.Need-returns-4
 returns-4 c =
     let a = c .before .before .before .before .args in
-    bytes-full (a .before) _ (a .room) (c .if1 .left) ∙ ap (λ (r : Read). afterRead (a .before) r (a .room)) (sym (c .before .before .read .given .1))
+    bytes-full (a .before) _ (a .room) (omega (arith, c .if1 .left)) ∙ ap (λ (r : Read). afterRead (a .before) r (a .room)) (sym (c .before .before .read .given .1))
 
 pub after-read-spec : {M : Type 1} → statement M
 after-read-spec =
@@ -50,6 +56,7 @@ after-read-spec =
     enum-told-2
     enum-known-read
     add-count
+    sub-left
     returns
     returns-2
     returns-3

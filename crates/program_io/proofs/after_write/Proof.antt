@@ -17,10 +17,13 @@ enum-known-wrote c = search needs
 add-count : tie.Need-add-count
 add-count c = omega (arith, ap bytesTaken (c .before .wrote .given .1), c .before .before .before .pre)
 
+sub-left : tie.Need-sub-left
+sub-left c = omega (arith, ap bytesTaken (c .before .wrote .given .1), c .before .before .before .pre)
+
 returns : tie.Need-returns
 returns c =
     let a = c .before .before .before .before .args in
-    bytes-more (a .before) _ (a .size) (c .if1 .taken) ∙ ap (λ (w : Wrote). afterWrite (a .before) w (a .size)) (sym (c .before .before .wrote .given .1))
+    bytes-more (a .before) _ (a .size) (omega (arith, c .if1 .taken)) ∙ ap (λ (w : Wrote). afterWrite (a .before) w (a .size)) (sym (c .before .before .wrote .given .1))
 
 returns-2 : tie.Need-returns-2
 returns-2 c =
@@ -29,8 +32,8 @@ returns-2 c =
 returns-3 : tie.Need-returns-3
 returns-3 c =
     let a = c .before .before .before .before .args in
-    bytes-whole (a .before) _ (a .size) (c .if1 .left) ∙ ap (λ (w : Wrote). afterWrite (a .before) w (a .size)) (sym (c .before .before .wrote .given .1))
+    bytes-whole (a .before) _ (a .size) (omega (arith, c .if1 .left)) ∙ ap (λ (w : Wrote). afterWrite (a .before) w (a .size)) (sym (c .before .before .wrote .given .1))
 
 pub after-write-spec : {M : Type 1} → statement M
 after-write-spec =
-    tie.close (tie.spec enum-told enum-known-wrote add-count returns returns-2 returns-3)
+    tie.close (tie.spec enum-told enum-known-wrote add-count sub-left returns returns-2 returns-3)
