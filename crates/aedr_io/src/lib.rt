@@ -115,8 +115,8 @@ fn run(fd: i32, buf: &mut [u8], out: &mut [u8]) -> Checked
             printed,
         };
     }
-    let text = aedr::close(records, out);
-    let printed = program_io::print(&out[..text]);
+    let closing = aedr::close(records, out);
+    let printed = program_io::print(&out[..closing]);
     let next = program_io::after_chunk(full, chunk, printed);
     let complete = program_io::closes(next);
     Checked {

@@ -110,8 +110,8 @@ fn after_read(before: usize, read: Read, room: usize) -> ReadStep
         Read::End => ReadStep::Done(Chunk::Last(before)),
         Read::Bytes(more) => {
             let count = before + more;
-            let left = room - count;
-            if left > 0 {
+            let room_left = room - count;
+            if room_left > 0 {
                 return ReadStep::More(count);
             }
             ReadStep::Done(Chunk::Full(count))
@@ -155,11 +155,11 @@ fn write_meaning(got: isize, rest: &[u8]) -> Wrote
     ensures { λ r. ⌜ r ≡ writeMeaning got (length (now (rest .entry))) ⌝ }
     ensures { λ r. ⌜ WroteWithin (length (now (rest .entry))) r ⌝ }
 {
-    let count = io::count(got, rest);
-    if count == 0 {
+    let taken = io::count(got, rest);
+    if taken == 0 {
         return Wrote::Failed;
     }
-    Wrote::Bytes(count)
+    Wrote::Bytes(taken)
 }
 
 // Writes once, from the first byte on. A failure is told at once, while errno is its own.

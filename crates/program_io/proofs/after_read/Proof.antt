@@ -24,8 +24,8 @@ add-count c =
     let h = subst (λ (r : Read). ReadsWithin (a .args .before) r (a .args .room)) (c .before .read .given .1) (a .pre) in
     omega (arith, h, a .fits .room)
 
-sub-left : tie.Need-sub-left
-sub-left c =
+sub-room-left : tie.Need-sub-room-left
+sub-room-left c =
     let a = c .before .before .before in
     let h = subst (λ (r : Read). ReadsWithin (a .args .before) r (a .args .room)) (c .before .read .given .1) (a .pre) in
     omega (arith, h)
@@ -56,7 +56,7 @@ after-read-spec =
     enum-told-2
     enum-known-read
     add-count
-    sub-left
+    sub-room-left
     returns
     returns-2
     returns-3
