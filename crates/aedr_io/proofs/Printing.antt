@@ -5,13 +5,13 @@ use mathlib.Core.Bool.{Bool, true, false, false≢true}
 use mathlib.Core.List.{List}
 use native.Mathlib.Omega.{arith}
 use lib.ListN.{length, take}
-use Rattle.program_io.specs.declared.Printed.{Printed}
+use Rattle.program_output.specs.declared.Printed.{Printed}
 use Rattle.program_io.specs.declared.Next.{Next}
 use Rattle.program_io.specs.declared.Next.the-variants.{Continue, Close, Stop, TooLong}
-use Rattle.program_io.specs.Chunk.{ChunkWithin, chunkBytes}
-use Rattle.program_io.specs.Written.{TextWritten, isWhole}
+use Rattle.program_input.specs.Chunk.{ChunkWithin, chunkBytes}
+use Rattle.program_output.specs.Written.{TextWritten, isWhole}
 use Rattle.program_io.specs.Next.{chunksMost, afterChunk, isContinue, isClose}
-use Rattle.program_io.proofs.Reading.{count-fits}
+use Rattle.program_input.proofs.Reading.{count-fits}
 use Rattle.program_io.proofs.Following.{is-continue, is-close, continue-full}
 use Rattle.aedr.specs.Printed.{piecesIn, allLines}
 use Rattle.aedr.specs.Chunks.{chunkPieces, chunkSize}

@@ -4,11 +4,11 @@ use mathlib.Core.Path.{_≡_}
 use mathlib.Core.Bool.{true, false}
 use mathlib.Core.List.{List}
 use lib.ListN.{length, take}
-use Rattle.program_io.specs.declared.Chunk.{Chunk}
+use Rattle.program_input.specs.declared.Chunk.{Chunk}
 use Rattle.program_io.specs.declared.Next.{Next}
 use Rattle.program_io.specs.declared.Next.the-variants.{Continue, Close, Stop, TooLong}
-use Rattle.program_io.specs.Chunk.{ChunkWithin, chunkBytes}
-use Rattle.program_io.specs.Written.{TextWritten, isWhole}
+use Rattle.program_input.specs.Chunk.{ChunkWithin, chunkBytes}
+use Rattle.program_output.specs.Written.{TextWritten, isWhole}
 use Rattle.program_io.specs.Next.{chunksMost, afterChunk, isContinue, isClose}
 use Rattle.aedr.specs.Printed.{piecesIn, allLines, total}
 use Rattle.aedr.specs.Chunks.{chunkPieces, chunkSize}

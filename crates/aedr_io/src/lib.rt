@@ -6,12 +6,12 @@
 // No contract can say what is read or written. So this stays unproved, and tests/program.rs runs the program:
 // - that the bytes in `buf` come from the descriptor;
 // - which bytes go to standard output: the contracts say what stands in `out` when it is printed, and that the length of the text handed to
-//   `program_io::print` is that of the text there, not that these bytes are what is written;
+//   `program_output::print` is that of the text there, not that these bytes are what is written;
 // - that a failure is told.
 // A program that reads nothing and writes nothing would meet the promise of `check_file`.
-use program_io::Chunk;
+use program_input::Chunk;
 use program_io::Next;
-use program_io::Printed;
+use program_output::Printed;
 ghost use mathlib.Core.Path.{_≡_};
 ghost use Prim.Native.Nat.{_*_, _≤_};
 ghost use lib.ListN.{length};
@@ -46,10 +46,10 @@ fn print_chunk(fd: i32, full: u64, records: u64, buf: &mut [u8], out: &mut [u8])
     requires { ⌜ (length (now buf) ≡ chunkSize) × (length (now out) ≡ chunkRoom) × (records ≤ chunkPieces * chunksMost) ⌝ }
     ensures { λ r. ⌜ ChunkPrinted r full records (now (buf .exit)) (now (out .exit)) ⌝ }
 {
-    let chunk = program_io::fill(fd, buf);
-    let read = program_io::count(chunk);
+    let chunk = program_input::fill(fd, buf);
+    let read = program_input::count(chunk);
     let text = aedr::report(&buf[..read], records, out);
-    let printed = program_io::print(&out[..text]);
+    let printed = program_output::print(&out[..text]);
     let next = program_io::after_chunk(full, chunk, printed);
     let records = records_after(next, records, read);
     Progress {
@@ -116,7 +116,7 @@ fn run(fd: i32, buf: &mut [u8], out: &mut [u8]) -> Checked
         };
     }
     let closing = aedr::close(records, out);
-    let printed = program_io::print(&out[..closing]);
+    let printed = program_output::print(&out[..closing]);
     let next = program_io::after_chunk(full, chunk, printed);
     let complete = program_io::closes(next);
     Checked {

@@ -63,14 +63,14 @@ fn show_arrays(row: u64, arrays: PacketArrays) {
     }
 }
 
-// Whether a packet, read and written again, gives its own bytes.
-fn comes_back(bytes: &[u8], word: usize) -> bool {
+// Whether what was read of a packet, written again, gives its own bytes.
+fn comes_back(bytes: &[u8], word: usize, f: PacketFields, arrays: PacketArrays) -> bool {
     let mut again = [0; PACKET_SIZE];
-    packet_laws::copy_packet(bytes, word, &mut again);
+    packet_writer::write_packet(f, arrays, packet::carried(bytes), word, &mut again);
     show::same(bytes, &again)
 }
 
-fn accepted(bytes: &[u8], word: usize, f: PacketFields) {
+fn accepted(bytes: &[u8], word: usize, f: PacketFields, arrays: PacketArrays) {
     show::text(b": accepted, sum");
     if word < 540 {
         show::entry_16(octets::u16_at(bytes, word * 2));
@@ -78,7 +78,7 @@ fn accepted(bytes: &[u8], word: usize, f: PacketFields) {
     show_fields(f);
     show::text(b", carried");
     show::entry(show::digest(packet::carried(bytes)));
-    if comes_back(bytes, word) {
+    if comes_back(bytes, word, f, arrays) {
         show::text(b", rewritten the same");
     }
 }
@@ -90,7 +90,7 @@ pub(crate) fn judge(bytes: &[u8], word: usize, row: u64) {
     let arrays = read.arrays;
     match answer {
         PacketAnswer::Refused(n) => show::refused(n),
-        PacketAnswer::Accepted(f) => accepted(bytes, word, f),
+        PacketAnswer::Accepted(f) => accepted(bytes, word, f, arrays),
     }
     show_arrays(row, arrays);
     show::check(packet::refusal_number(answer), row / tables::DUE);

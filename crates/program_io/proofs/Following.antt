@@ -4,11 +4,11 @@ use mathlib.Core.Path.{_≡_, refl}
 use mathlib.Core.Bool.{Bool, true, false, cond, false≢true}
 use lib.Dec.{ltb}
 use borrow.Author.Tests.{ltb-true}
-use Rattle.program_io.specs.declared.Chunk.{Chunk}
-use Rattle.program_io.specs.declared.Chunk.the-variants as Ch
+use Rattle.program_input.specs.declared.Chunk.{Chunk}
+use Rattle.program_input.specs.declared.Chunk.the-variants as Ch
 use Rattle.program_io.specs.declared.Next.{Next}
 use Rattle.program_io.specs.declared.Next.the-variants as Nx
-use Rattle.program_io.specs.Chunk.{ChunkWithin, chunkBytes}
+use Rattle.program_input.specs.Chunk.{ChunkWithin, chunkBytes}
 use Rattle.program_io.specs.Next.{chunksMost, afterChunk, isContinue, isClose}
 
 pub is-continue : (next : Next) → isContinue next ≡ true → next ≡ Nx.Continue

@@ -1,3 +1,1 @@
-pub mod Chunk
-pub mod Written
 pub mod Next

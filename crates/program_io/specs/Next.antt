@@ -2,8 +2,8 @@
 use Prim.Native.Nat.{ℕ, _-_, _^_}
 use mathlib.Core.Bool.{Bool, true, false, cond}
 use lib.Dec.{ltb}
-use Rattle.program_io.specs.declared.Chunk.{Chunk}
-use Rattle.program_io.specs.declared.Chunk.the-variants as Ch
+use Rattle.program_input.specs.declared.Chunk.{Chunk}
+use Rattle.program_input.specs.declared.Chunk.the-variants as Ch
 use Rattle.program_io.specs.declared.Next.{Next}
 use Rattle.program_io.specs.declared.Next.the-variants as Nx
 

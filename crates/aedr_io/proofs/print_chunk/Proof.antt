@@ -7,8 +7,8 @@ use lib.ListN.{length, take}
 use lib.Seq.{length-take-le}
 use denote.Ref.{now}
 use borrow.Author.Needs.{needs}
-use Rattle.program_io.specs.Written.{TextWritten}
-use Rattle.program_io.proofs.Reading.{count-fits}
+use Rattle.program_output.specs.Written.{TextWritten}
+use Rattle.program_input.proofs.Reading.{count-fits}
 use Rattle.aedr.specs.Chunks.{report}
 use Rattle.aedr_io.proofs.Texts.{stored, report-lines}
 use Rattle.aedr_io.proofs.Printing.{printed-chunk}

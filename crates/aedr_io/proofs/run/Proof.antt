@@ -6,7 +6,7 @@ use lib.ListN.{length}
 use borrow.Author.Tests.{not-true, not-false}
 use borrow.Author.Needs.{needs}
 use Rattle.octets.specs.Bytes.{put}
-use Rattle.program_io.specs.Written.{TextWritten}
+use Rattle.program_output.specs.Written.{TextWritten}
 use Rattle.program_io.specs.Next.{isClose}
 use Rattle.aedr.specs.Printed.{total}
 use Rattle.aedr_io.proofs.Texts.{stored, closing-text}

@@ -1,7 +1,7 @@
 -- Nothing after a text that was not written whole; else by how the reads ended.
 use mathlib.Core.Path.{sym, ap, ap₂, _∙_}
 use borrow.Author.Needs.{needs}
-use Rattle.program_io.specs.Written.{isWhole}
+use Rattle.program_output.specs.Written.{isWhole}
 use Rattle.program_io.specs.Next.{afterChunk}
 use Rattle.program_io.proofs.next_after.Statement.{statement}
 use Rattle.program_io.proofs.next_after.Tie as tie

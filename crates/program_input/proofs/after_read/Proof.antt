@@ -3,11 +3,11 @@ use Prim.Native.Nat.{_+_, _≤_}
 use mathlib.Core.Path.{sym, ap, subst, _∙_}
 use native.Mathlib.Omega.{arith}
 use borrow.Author.Needs.{needs}
-use Rattle.program_io.specs.declared.Read.{Read}
-use Rattle.program_io.specs.Chunk.{ReadsWithin, afterRead}
-use Rattle.program_io.proofs.Reading.{bytes-more, bytes-full}
-use Rattle.program_io.proofs.after_read.Statement.{statement}
-use Rattle.program_io.proofs.after_read.Tie as tie
+use Rattle.program_input.specs.declared.Read.{Read}
+use Rattle.program_input.specs.Chunk.{ReadsWithin, afterRead}
+use Rattle.program_input.proofs.Reading.{bytes-more, bytes-full}
+use Rattle.program_input.proofs.after_read.Statement.{statement}
+use Rattle.program_input.proofs.after_read.Tie as tie
 
 enum-told : tie.Need-enum-told
 enum-told c = search needs

@@ -4,13 +4,13 @@ use mathlib.Core.Path.{_≡_}
 use mathlib.Core.Bool.{Bool, true, false, cond}
 use lib.Dec.{eqb, ltb}
 use lib.IntN.{ℤ, pos, negsuc}
-use Rattle.program_io.specs.declared.Wrote.{Wrote}
-use Rattle.program_io.specs.declared.Wrote.the-variants as Wr
-use Rattle.program_io.specs.declared.Written.{Written}
-use Rattle.program_io.specs.declared.Written.the-variants as Wn
-use Rattle.program_io.specs.declared.WriteStep.{WriteStep}
-use Rattle.program_io.specs.declared.WriteStep.the-variants as St
-use Rattle.program_io.specs.declared.Printed.{Printed}
+use Rattle.program_output.specs.declared.Wrote.{Wrote}
+use Rattle.program_output.specs.declared.Wrote.the-variants as Wr
+use Rattle.program_output.specs.declared.Written.{Written}
+use Rattle.program_output.specs.declared.Written.the-variants as Wn
+use Rattle.program_output.specs.declared.WriteStep.{WriteStep}
+use Rattle.program_output.specs.declared.WriteStep.the-variants as St
+use Rattle.program_output.specs.declared.Printed.{Printed}
 
 -- A write's answer, with `size` bytes to take: below 0 it failed, and so it did where it took none; any other is a number of bytes, never over the size.
 abbrev pub writeMeaning : ℤ → ℕ → Wrote

@@ -3,10 +3,10 @@ use mathlib.Core.Path.{_≡_, sym, ap, subst, _∙_}
 use native.Mathlib.Omega.{arith}
 use lib.ListN.{length}
 use borrow.Author.Needs.{needs}
-use Rattle.program_io.specs.Chunk.{ReadsWithin, afterRead}
-use Rattle.program_io.proofs.Reading.{readsLeft, step-more, step-done, next-fits, next-less}
-use Rattle.program_io.proofs.fill.Statement.{statement}
-use Rattle.program_io.proofs.fill.Tie as tie
+use Rattle.program_input.specs.Chunk.{ReadsWithin, afterRead}
+use Rattle.program_input.proofs.Reading.{readsLeft, step-more, step-done, next-fits, next-less}
+use Rattle.program_input.proofs.fill.Statement.{statement}
+use Rattle.program_input.proofs.fill.Tie as tie
 
 abbrev Inv-loop : tie.InvT-loop
 Inv-loop fd buf₀ before₀ last₀ buf before last = ReadsWithin before last (length buf₀) × (length buf ≡ length buf₀)

@@ -3,10 +3,10 @@ use Prim.Native.Nat.{_+_, _≤_}
 use mathlib.Core.Path.{refl, sym, _∙_}
 use native.Mathlib.Omega.{arith}
 use borrow.Author.Needs.{needs}
-use Rattle.program_io.specs.Written.{bytesTaken}
-use Rattle.program_io.proofs.Writing.{writesLeft, step-more, next-fits, next-less}
-use Rattle.program_io.proofs.write.Statement.{statement}
-use Rattle.program_io.proofs.write.Tie as tie
+use Rattle.program_output.specs.Written.{bytesTaken}
+use Rattle.program_output.proofs.Writing.{writesLeft, step-more, next-fits, next-less}
+use Rattle.program_output.proofs.write.Statement.{statement}
+use Rattle.program_output.proofs.write.Tie as tie
 
 abbrev Inv-loop : tie.InvT-loop
 Inv-loop fd text size before₀ last₀ before last = before + bytesTaken last ≤ size

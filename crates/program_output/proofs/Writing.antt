@@ -7,13 +7,13 @@ use lib.Dec.{ltb}
 use lib.IntN.{ℤ, pos, negsuc}
 use borrow.Author.Tests.{ltb-true, lt-ltb, le-ltb, eq-eqb, ne-eqb}
 use Rattle.io.specs.Counts.{clamped}
-use Rattle.program_io.specs.declared.Wrote.{Wrote}
-use Rattle.program_io.specs.declared.Wrote.the-variants as Wr
-use Rattle.program_io.specs.declared.Written.{Written}
-use Rattle.program_io.specs.declared.Written.the-variants as Wn
-use Rattle.program_io.specs.declared.WriteStep.{WriteStep}
-use Rattle.program_io.specs.declared.WriteStep.the-variants as St
-use Rattle.program_io.specs.Written.{writeMeaning, WroteWithin, bytesTaken, afterWrite}
+use Rattle.program_output.specs.declared.Wrote.{Wrote}
+use Rattle.program_output.specs.declared.Wrote.the-variants as Wr
+use Rattle.program_output.specs.declared.Written.{Written}
+use Rattle.program_output.specs.declared.Written.the-variants as Wn
+use Rattle.program_output.specs.declared.WriteStep.{WriteStep}
+use Rattle.program_output.specs.declared.WriteStep.the-variants as St
+use Rattle.program_output.specs.Written.{writeMeaning, WroteWithin, bytesTaken, afterWrite}
 
 -- the two answers
 pub write-failed : (got : ℤ) (size n : ℕ) → n ≡ clamped got size → n ≡ 0 → Wr.Failed ≡ writeMeaning got size

@@ -4,9 +4,9 @@ use mir.Syntax.{w64}
 use mir.Val.{SFits}
 use mir.ValLaws.{toZ-ofZ}
 use borrow.Author.Needs.{needs}
-use Rattle.program_io.proofs.Reading.{read-failed, read-end, read-bytes}
-use Rattle.program_io.proofs.read_meaning.Statement.{statement}
-use Rattle.program_io.proofs.read_meaning.Tie as tie
+use Rattle.program_input.proofs.Reading.{read-failed, read-end, read-bytes}
+use Rattle.program_input.proofs.read_meaning.Statement.{statement}
+use Rattle.program_input.proofs.read_meaning.Tie as tie
 
 returns : tie.Need-returns
 returns c =

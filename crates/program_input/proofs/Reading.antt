@@ -8,13 +8,13 @@ use lib.IntN.{ℤ, pos, negsuc}
 use lib.Signed.{ltZ}
 use borrow.Author.Tests.{ltb-true, ltb-false, lt-ltb, le-ltb, eq-eqb, ne-eqb}
 use Rattle.io.specs.Counts.{clamped}
-use Rattle.program_io.specs.declared.Read.{Read}
-use Rattle.program_io.specs.declared.Read.the-variants as Rd
-use Rattle.program_io.specs.declared.Chunk.{Chunk}
-use Rattle.program_io.specs.declared.Chunk.the-variants as Ch
-use Rattle.program_io.specs.declared.ReadStep.{ReadStep}
-use Rattle.program_io.specs.declared.ReadStep.the-variants as St
-use Rattle.program_io.specs.Chunk.{readMeaning, ReadWithin, ReadsWithin, afterRead, ChunkWithin, chunkBytes}
+use Rattle.program_input.specs.declared.Read.{Read}
+use Rattle.program_input.specs.declared.Read.the-variants as Rd
+use Rattle.program_input.specs.declared.Chunk.{Chunk}
+use Rattle.program_input.specs.declared.Chunk.the-variants as Ch
+use Rattle.program_input.specs.declared.ReadStep.{ReadStep}
+use Rattle.program_input.specs.declared.ReadStep.the-variants as St
+use Rattle.program_input.specs.Chunk.{readMeaning, ReadWithin, ReadsWithin, afterRead, ChunkWithin, chunkBytes}
 
 -- the three answers
 pub read-failed : (got : ℤ) (room : ℕ) → ltZ got (pos 0) ≡ true → Rd.Failed ≡ readMeaning got room

@@ -2,11 +2,11 @@
 use mathlib.Core.Path.{sym, ap, _∙_}
 use native.Mathlib.Omega.{arith}
 use borrow.Author.Needs.{needs}
-use Rattle.program_io.specs.declared.Wrote.{Wrote}
-use Rattle.program_io.specs.Written.{bytesTaken, afterWrite}
-use Rattle.program_io.proofs.Writing.{bytes-more, bytes-whole}
-use Rattle.program_io.proofs.after_write.Statement.{statement}
-use Rattle.program_io.proofs.after_write.Tie as tie
+use Rattle.program_output.specs.declared.Wrote.{Wrote}
+use Rattle.program_output.specs.Written.{bytesTaken, afterWrite}
+use Rattle.program_output.proofs.Writing.{bytes-more, bytes-whole}
+use Rattle.program_output.proofs.after_write.Statement.{statement}
+use Rattle.program_output.proofs.after_write.Tie as tie
 
 enum-told : tie.Need-enum-told
 enum-told c = search needs

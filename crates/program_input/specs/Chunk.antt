@@ -4,12 +4,12 @@ use mathlib.Core.Path.{_≡_}
 use mathlib.Core.Bool.{cond}
 use lib.Dec.{eqb, ltb}
 use lib.IntN.{ℤ, pos, negsuc}
-use Rattle.program_io.specs.declared.Read.{Read}
-use Rattle.program_io.specs.declared.Read.the-variants as Rd
-use Rattle.program_io.specs.declared.Chunk.{Chunk}
-use Rattle.program_io.specs.declared.Chunk.the-variants as Ch
-use Rattle.program_io.specs.declared.ReadStep.{ReadStep}
-use Rattle.program_io.specs.declared.ReadStep.the-variants as St
+use Rattle.program_input.specs.declared.Read.{Read}
+use Rattle.program_input.specs.declared.Read.the-variants as Rd
+use Rattle.program_input.specs.declared.Chunk.{Chunk}
+use Rattle.program_input.specs.declared.Chunk.the-variants as Ch
+use Rattle.program_input.specs.declared.ReadStep.{ReadStep}
+use Rattle.program_input.specs.declared.ReadStep.the-variants as St
 
 -- A read's answer, with `room` bytes to put to: below 0 it failed, 0 is the end of the input, any other is a number of bytes, never over the room.
 abbrev pub readMeaning : ℤ → ℕ → Read

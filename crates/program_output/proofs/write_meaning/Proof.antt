@@ -4,9 +4,9 @@ use mir.Syntax.{w64}
 use mir.Val.{SFits}
 use mir.ValLaws.{toZ-ofZ}
 use borrow.Author.Needs.{needs}
-use Rattle.program_io.proofs.Writing.{write-failed, write-bytes}
-use Rattle.program_io.proofs.write_meaning.Statement.{statement}
-use Rattle.program_io.proofs.write_meaning.Tie as tie
+use Rattle.program_output.proofs.Writing.{write-failed, write-bytes}
+use Rattle.program_output.proofs.write_meaning.Statement.{statement}
+use Rattle.program_output.proofs.write_meaning.Tie as tie
 
 count-requires : tie.Need-count-requires
 count-requires c κs = search needs
