@@ -8,6 +8,7 @@ use packet_layout::TEMPERATURES;
 use packet_writer::PacketWritten;
 use reorder_c::Answer;
 use reorder_c::Count;
+use reorder_descriptions::DESCRIPTION_NUMBERS;
 use reorder_session::Session;
 ghost use mathlib.Core.Path.{_≡_};
 ghost use Rattle.checksum.specs.Sum.{packetSum};
@@ -159,7 +160,7 @@ pub extern "C" fn mola_drain(
     out: &mut [u8],
     store: &[u8],
     budget: u32,
-    descriptions: &mut [u32; 64],
+    descriptions: &mut [u32; DESCRIPTION_NUMBERS],
 ) -> Count
     ensures { λ r. ⌜ DrainsAs (now (session .entry)) (now (out .entry)) (now (store .entry)) budget (now (descriptions .entry))
         r (now (session .exit)) (now (out .exit)) (now (descriptions .exit)) ⌝ }

@@ -1,6 +1,7 @@
 // The 1,080-byte science packet: its fields and the reader.
 use packet_layout::BINS;
 use packet_layout::CARRIED_AT;
+use packet_layout::COUNTS;
 use packet_layout::HSTART_AT;
 use packet_layout::PACKET_SIZE;
 use packet_layout::READINGS;
@@ -57,7 +58,7 @@ fn read_fields(bytes: &[u8]) -> PacketFields
 {
     PacketFields {
         error_status: ((octets::u16_at(bytes, 0) >> 8) % 8) as u8,
-        count: octets::u16_at(bytes, 2) % 16384,
+        count: octets::u16_at(bytes, 2) % COUNTS,
         coarse_time: octets::u32_at(bytes, 6),
         fine_time: octets::u8_at(bytes, 10),
         status_register: octets::u8_at(bytes, STATUS_AT),

@@ -20,8 +20,11 @@ pub const SEGMENTATION: u16 = 3;
 
 pub const LENGTH: u16 = 1073;
 
+// The count has 14 bits, below the segmentation.
+pub const COUNTS: u16 = 16384;
+
 // The largest values of the free fields that have no whole bytes of their own.
-pub const MOST_COUNT: u16 = 16383;
+pub const MOST_COUNT: u16 = COUNTS - 1;
 
 pub const MOST_ERROR_STATUS: u8 = 7;
 

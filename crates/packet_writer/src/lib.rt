@@ -4,6 +4,7 @@ use packet::PacketFields;
 use packet_layout::BINS;
 use packet_layout::CARRIED_AT;
 use packet_layout::CARRIED_SIZE;
+use packet_layout::COUNTS;
 use packet_layout::HISTOGRAM_AT;
 use packet_layout::HSTART_AT;
 use packet_layout::INSTRUMENT;
@@ -68,7 +69,7 @@ fn head_bytes(f: PacketFields) -> [u8; 12]
     ensures { λ r. ⌜ r ≡ join (headParts f) ⌝ }
 {
     let id = (f.error_status as u16) * 256 + INSTRUMENT;
-    let sequence = SEGMENTATION * 16384 + f.count;
+    let sequence = SEGMENTATION * COUNTS + f.count;
     [
         (id / 256 % 256) as u8,
         (id % 256) as u8,

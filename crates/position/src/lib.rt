@@ -9,6 +9,13 @@ ghost use Rattle.position.specs.Rule.{Rule};
 // How far, in seconds either way, a packet's clock may be from 14 seconds for each position.
 pub const TOLERANCE: u32 = 3600;
 
+// The seconds from a position to the next, the counts before one comes again, and the seconds that these take.
+const SECONDS: i64 = 14;
+
+const COUNTS: i64 = packet_layout::COUNTS as i64;
+
+const ROUND: i64 = SECONDS * COUNTS;
+
 // Count and coarse time of the packet that has position 0.
 #[repr(C)]
 pub struct Anchor {
@@ -22,14 +29,14 @@ pub enum Located {
     Nowhere,
 }
 
-// x / 229,376 rounded down: the count comes round every 16,384 positions of 14 seconds.
+// x / 229,376 rounded down.
 fn rounds(x: i64) -> i64
     ensures { λ r. ⌜ r ≡ shrZ x 229376 ⌝ }
 {
     if x < 0 {
-        -1 - (-1 - x) / 229376
+        -1 - (-1 - x) / ROUND
     } else {
-        x / 229376
+        x / ROUND
     }
 }
 
@@ -47,8 +54,8 @@ pub fn locate(anchor: Anchor, count: u16, time: u32, tolerance: u32) -> Located
 {
     let counted = count as i64 - anchor.count as i64;
     let elapsed = time as i64 - anchor.time as i64;
-    let p = counted + 16384 * rounds(elapsed + tolerance as i64 - 14 * counted);
-    if is_within(14 * p - elapsed, tolerance) {
+    let p = counted + COUNTS * rounds(elapsed + tolerance as i64 - SECONDS * counted);
+    if is_within(SECONDS * p - elapsed, tolerance) {
         Located::At(p)
     } else {
         Located::Nowhere

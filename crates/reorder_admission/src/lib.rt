@@ -33,7 +33,7 @@ fn position_answer(window: Window, located: Located) -> OfferAnswer
     if window::is_held(window, n) {
         return OfferAnswer::Refused(24);
     }
-    if 31 < n - window.start {
+    if window::MOST_AHEAD < n - window.start {
         return OfferAnswer::Refused(25);
     }
     OfferAnswer::Held(n)

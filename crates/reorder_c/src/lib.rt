@@ -1,7 +1,9 @@
 // The reorder buffer's calls by value, with their answers in structs of numbers: what the functions for C and Rust stand on. Each call promises what
 // the call by value does, of what its numbers stand for, and that its numbers are no others.
 use reorder_admission::OfferAnswer;
+use reorder_descriptions::DESCRIPTION_NUMBERS;
 use reorder_pass::PassAnswer;
+use reorder_rules::MOST_ANSWERS;
 use reorder_serve::DrainAnswer;
 use reorder_session::Session;
 use reorder_turn::Description;
@@ -162,7 +164,7 @@ fn drain_turns(
     out: &mut [u8],
     store: &[u8],
     budget: u32,
-    descriptions: &mut [u32; 64],
+    descriptions: &mut [u32; DESCRIPTION_NUMBERS],
 ) -> Counted
     ensures { λ r. ⌜ DrainsAs session (now (out .entry)) (now (store .entry)) budget (now (descriptions .entry))
         (r .answer) (r .session) (now (out .exit)) (now (descriptions .exit)) ⌝ }
@@ -193,7 +195,7 @@ pub fn drain(
     out: &mut [u8],
     store: &[u8],
     budget: u32,
-    descriptions: &mut [u32; 64],
+    descriptions: &mut [u32; DESCRIPTION_NUMBERS],
 ) -> Counted
     ensures { λ r. ⌜ DrainsAs session (now (out .entry)) (now (store .entry)) budget (now (descriptions .entry))
         (r .answer) (r .session) (now (out .exit)) (now (descriptions .exit)) ⌝ }
@@ -203,7 +205,7 @@ pub fn drain(
         let none = [Description {
             kind: 0,
             position: 0,
-        }; 32];
+        }; MOST_ANSWERS];
         reorder_descriptions::put_descriptions(none, descriptions);
         return Counted {
             answer: Count {

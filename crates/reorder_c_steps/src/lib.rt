@@ -1,6 +1,7 @@
 // The calls of the reorder buffer with answers in numbers as steps of a history: so demand 3 holds of what they answer and leave.
 use reorder_c::Answered;
 use reorder_c::Counted;
+use reorder_descriptions::DESCRIPTION_NUMBERS;
 use reorder_session::Session;
 ghost use Rattle.reorder_session.specs.Session.{single};
 ghost use Rattle.reorder_offer.specs.Opening.{openOf};
@@ -43,7 +44,7 @@ pub fn drain_step(
     out: &mut [u8],
     store: &[u8],
     budget: u32,
-    descriptions: &mut [u32; 64],
+    descriptions: &mut [u32; DESCRIPTION_NUMBERS],
 ) -> Counted
     ensures { λ r. ⌜ DrainsAs session (now (out .entry)) (now (store .entry)) budget (now (descriptions .entry))
         (r .answer) (r .session) (now (out .exit)) (now (descriptions .exit))

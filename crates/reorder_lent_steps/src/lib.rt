@@ -80,5 +80,5 @@ pub fn open_offer_drain(
         sum_word,
     );
     let offered = reorder_local::offer(opened.session, store, packet);
-    reorder_local::drain(offered.session, out, store, reorder_rules::POSITIONS)
+    reorder_local::drain(offered.session, out, store, window::POSITIONS)
 }

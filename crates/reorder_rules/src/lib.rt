@@ -1,11 +1,11 @@
 // Document 01's rules of the reorder buffer ("The rack"), for any kind of session, and their laws. No code but numbers: each kind of session has
 // its calls in crates of its own.
 
-// How many positions can be held.
-pub const POSITIONS: u32 = 32;
+// The most answers that a drain gives: one for each position that can be held.
+pub const MOST_ANSWERS: usize = window::POSITIONS as usize;
 
 // Held bytes live in a lent store of so many bytes: a packet's for each position.
-pub const STORE_SIZE: usize = POSITIONS as usize * packet_layout::PACKET_SIZE;
+pub const STORE_SIZE: usize = window::POSITIONS as usize * packet_layout::PACKET_SIZE;
 
 // The least and the greatest threshold.
 pub const LEAST_THRESHOLD: u32 = 1;

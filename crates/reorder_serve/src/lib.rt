@@ -1,9 +1,10 @@
 // Serving the reorder buffer in order: serve and drain (document 01, "The rack").
 use packet_layout::PACKET_SIZE;
-use reorder_rules::POSITIONS;
+use reorder_rules::MOST_ANSWERS;
 use reorder_session::Session;
 use reorder_turn::Description;
 use reorder_turn::ServeAnswer;
+use window::POSITIONS;
 ghost use mathlib.Core.Path.{_≡_};
 ghost use Prim.Native.Nat.{_≤_, _<_};
 ghost use lib.ListN.{length};
@@ -29,7 +30,7 @@ pub enum DrainAnswer {
 // What a drain answers: the answers in order, all zeros past their count and on a refusal.
 pub struct Report {
     pub answer: DrainAnswer,
-    pub descriptions: [Description; 32],
+    pub descriptions: [Description; MOST_ANSWERS],
 }
 
 // The report of a drain, and the session then.
@@ -101,7 +102,7 @@ fn run(session: Session, out: &mut [u8], store: &[u8], budget: u32) -> Drained
     let mut descriptions = [Description {
         kind: 0,
         position: 0,
-    }; 32];
+    }; MOST_ANSWERS];
     while i < budget {
         let served = step(now, out, store, i);
         let answer = served.answer;
@@ -137,7 +138,7 @@ pub fn drain(session: Session, out: &mut [u8], store: &[u8], budget: u32) -> Dra
         let descriptions = [Description {
             kind: 0,
             position: 0,
-        }; 32];
+        }; MOST_ANSWERS];
         return Drained {
             answer: Report {
                 answer: DrainAnswer::Refused(n),

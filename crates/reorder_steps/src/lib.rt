@@ -82,5 +82,5 @@ pub fn open_offer_drain(
 {
     let opened = reorder_offer::open(store, first, threshold, sum_word);
     let offered = reorder_offer::offer(opened.session, store, packet);
-    reorder_serve::drain(offered.session, out, store, reorder_rules::POSITIONS)
+    reorder_serve::drain(offered.session, out, store, window::POSITIONS)
 }

@@ -84,7 +84,7 @@ pub fn drain_refusal(session: Session, store_size: usize, out_size: usize, budge
     if out_size != reorder_rules::STORE_SIZE {
         return 29;
     }
-    if reorder_rules::POSITIONS < budget {
+    if window::POSITIONS < budget {
         return 31;
     }
     0

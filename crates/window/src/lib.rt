@@ -5,6 +5,11 @@ ghost use Prim.Native.Nat.{_+_, _%_, _^_};
 ghost use Rattle.numbers.specs.Bit.{clearBit};
 ghost use Rattle.window.specs.Window.{heldAt, someHeld, holding, freed, skipped, firstWindow, noWindow, in32Bits, Rotated};
 
+// How many positions a window has, and how far from its start the last one is.
+pub const POSITIONS: u32 = 32;
+
+pub const MOST_AHEAD: u32 = POSITIONS - 1;
+
 // The first position of the window, and the marks: bit p mod 32 for position p.
 #[repr(C)]
 pub struct Window {
@@ -16,7 +21,7 @@ pub struct Window {
 fn bit_of(p: u32) -> u32
     ensures { λ r. ⌜ r ≡ 2 ^ (p % 32) ⌝ }
 {
-    1u32 << (p % 32)
+    1u32 << (p % POSITIONS)
 }
 
 // Whether position p is held.
@@ -26,18 +31,18 @@ pub fn is_held(window: Window, p: u32) -> bool
     if p < window.start {
         return false;
     }
-    if 31 < p - window.start {
+    if MOST_AHEAD < p - window.start {
         return false;
     }
-    (window.marks >> (p % 32)) & 1 == 1
+    (window.marks >> (p % POSITIONS)) & 1 == 1
 }
 
 // The marks rotated, so that bit j is that of position start + j.
 fn rotated(window: Window) -> u32
     ensures { λ r. ⌜ Rotated window r ⌝ }
 {
-    let k = window.start % 32;
-    (window.marks >> k) | (window.marks << ((32 - k) % 32))
+    let k = window.start % POSITIONS;
+    (window.marks >> k) | (window.marks << ((POSITIONS - k) % POSITIONS))
 }
 
 // Whether the first position of the window is held.
@@ -51,10 +56,10 @@ pub fn is_start_held(window: Window) -> bool
 pub fn is_held_ahead(window: Window, least: u32) -> bool
     ensures { λ r. ⌜ r ≡ someHeld window (window .start + least) ⌝ }
 {
-    if 31 < least {
+    if MOST_AHEAD < least {
         return false;
     }
-    u32::leading_zeros(rotated(window)) + least <= 31
+    u32::leading_zeros(rotated(window)) + least <= MOST_AHEAD
 }
 
 // The window with position p held too.
