@@ -9,13 +9,13 @@ use Rattle.lent_record.proofs.Promises.{Promise}
 use Rattle.reorder_lent.proofs.Calls.{open-takes, offer-takes, serve-takes, pass-takes}
 use Rattle.reorder_c.specs.declared.Answered.{Answered}
 use Rattle.reorder_c.specs.declared.Counted.{Counted}
-use Rattle.reorder_c.specs.Answers.{OpensAs, OffersAs, ServesAs, DrainsAs, PassesAs}
+use Rattle.reorder_c.specs.Calls.{OpensAs, OffersAs, ServesAs, DrainsAs, PassesAs}
 use Rattle.reorder_c.proofs.Answered as Answered-type
-use Rattle.reorder_c.proofs.Answer as Answer-type
-use Rattle.reorder_c.proofs.Answer.Laws as Answer-laws
+use Rattle.reorder_c_answers.proofs.Answer as Answer-type
+use Rattle.reorder_c_answers.proofs.Answer.Laws as Answer-laws
 use Rattle.reorder_c.proofs.Counted as Counted-type
-use Rattle.reorder_c.proofs.Count as Count-type
-use Rattle.reorder_c.proofs.Count.Laws as Count-laws
+use Rattle.reorder_c_answers.proofs.Count as Count-type
+use Rattle.reorder_c_answers.proofs.Count.Laws as Count-laws
 
 abbrev pub answered : Result session
 answered =

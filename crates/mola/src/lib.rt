@@ -6,9 +6,9 @@ use packet_layout::BINS;
 use packet_layout::READINGS;
 use packet_layout::TEMPERATURES;
 use packet_writer::PacketWritten;
-use reorder_c::Answer;
-use reorder_c::Count;
-use reorder_descriptions::DESCRIPTION_NUMBERS;
+use reorder_c_answers::Answer;
+use reorder_c_answers::Count;
+use reorder_c_answers::DESCRIPTION_NUMBERS;
 use reorder_session::Session;
 ghost use mathlib.Core.Path.{_≡_};
 ghost use Rattle.checksum.specs.Sum.{packetSum};
@@ -16,7 +16,7 @@ ghost use Rattle.packet_check.specs.Refusal.{readRefusal};
 ghost use Rattle.packet.specs.Read.{readDue};
 ghost use Rattle.packet_writer.specs.Write.{writeRefusal, writeBytes};
 ghost use Rattle.pedr_check.specs.Refusal.{recordRefusal};
-ghost use Rattle.reorder_c.specs.Answers.{OpensAs, OffersAs, ServesAs, DrainsAs, PassesAs};
+ghost use Rattle.reorder_c.specs.Calls.{OpensAs, OffersAs, ServesAs, DrainsAs, PassesAs};
 ghost use Rattle.mola.specs.Read.{noFields, asRead};
 
 // A packet's refusal number, or 0, and its fields, which are all zeros on a refusal.

@@ -7,12 +7,12 @@ use mir.Val.{vint, vstruct, vcons, vnil}
 use prog.Memory.{size, align, fieldOf}
 use Rattle.packet.specs.declared.PacketFields.{PacketFields}
 use Rattle.mola.specs.declared.FieldsAnswer.{FieldsAnswer}
-use Rattle.reorder_c.specs.declared.Answer.{Answer}
-use Rattle.reorder_c.specs.declared.Count.{Count}
+use Rattle.reorder_c_answers.specs.declared.Answer.{Answer}
+use Rattle.reorder_c_answers.specs.declared.Count.{Count}
 use Rattle.packet.proofs.PacketFields.Laws as In-fields
 use Rattle.mola.proofs.FieldsAnswer.Laws as In-read
-use Rattle.reorder_c.proofs.Answer.Laws as In-answer
-use Rattle.reorder_c.proofs.Count.Laws as In-count
+use Rattle.reorder_c_answers.proofs.Answer.Laws as In-answer
+use Rattle.reorder_c_answers.proofs.Count.Laws as In-count
 
 pub record StructLayouts : Type 0 where
   -- a packet's fields

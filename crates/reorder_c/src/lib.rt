@@ -1,34 +1,13 @@
 // The reorder buffer's calls by value, with their answers in structs of numbers: what the functions for C and Rust stand on. Each call promises what
 // the call by value does, of what its numbers stand for, and that its numbers are no others.
-use reorder_admission::OfferAnswer;
-use reorder_descriptions::DESCRIPTION_NUMBERS;
-use reorder_pass::PassAnswer;
+use reorder_c_answers::Answer;
+use reorder_c_answers::Count;
+use reorder_c_answers::DESCRIPTION_NUMBERS;
 use reorder_rules::MOST_ANSWERS;
 use reorder_serve::DrainAnswer;
 use reorder_session::Session;
 use reorder_turn::Description;
-use reorder_turn::ServeAnswer;
-ghost use mathlib.Core.Path.{_≡_};
-ghost use Rattle.reorder_admission.specs.Answer.{offerSaid};
-ghost use Rattle.reorder_turn.specs.Answer.{serveSaid};
-ghost use Rattle.reorder_serve.specs.Report.{drainSaid};
-ghost use Rattle.reorder_pass.specs.Answer.{passSaid};
-ghost use Rattle.reorder_c.specs.Answers.{heldAnswer, servedAnswer, passedAnswer, drainedCount, OpensAs, OffersAs, ServesAs, DrainsAs, PassesAs};
-
-// A refusal's number and zeros; or 0, a kind (0 Waiting, 1 a packet, 2 a missing position) and a position.
-#[repr(C)]
-pub struct Answer {
-    pub refusal: u32,
-    pub kind: u32,
-    pub position: u32,
-}
-
-// A refusal's number and 0; or 0 and how many answers there were.
-#[repr(C)]
-pub struct Count {
-    pub refusal: u32,
-    pub count: u32,
-}
+ghost use Rattle.reorder_c.specs.Calls.{OpensAs, OffersAs, ServesAs, DrainsAs, PassesAs};
 
 // What a call answers, and the session then.
 pub struct Answered {
@@ -40,77 +19,6 @@ pub struct Answered {
 pub struct Counted {
     pub answer: Count,
     pub session: Session,
-}
-
-// The numbers of what an opening or an offer answers.
-fn held_answer(answer: OfferAnswer) -> Answer
-    ensures { λ r. ⌜ r ≡ heldAnswer (offerSaid answer) ⌝ }
-{
-    match answer {
-        OfferAnswer::Refused(n) => Answer {
-            refusal: n as u32,
-            kind: 0,
-            position: 0,
-        },
-        OfferAnswer::Held(p) => Answer {
-            refusal: 0,
-            kind: 1,
-            position: p,
-        },
-    }
-}
-
-// The numbers of what a serve answers: but for a refusal, its description.
-fn served_answer(answer: ServeAnswer) -> Answer
-    ensures { λ r. ⌜ r ≡ servedAnswer (serveSaid answer) ⌝ }
-{
-    if let ServeAnswer::Refused(n) = answer {
-        return Answer {
-            refusal: n as u32,
-            kind: 0,
-            position: 0,
-        };
-    }
-    let description = reorder_turn::describe(answer);
-    Answer {
-        refusal: 0,
-        kind: description.kind,
-        position: description.position,
-    }
-}
-
-// The numbers of what a pass answers.
-fn passed_answer(answer: PassAnswer) -> Answer
-    ensures { λ r. ⌜ r ≡ passedAnswer (passSaid answer) ⌝ }
-{
-    match answer {
-        PassAnswer::Refused(n) => Answer {
-            refusal: n as u32,
-            kind: 0,
-            position: 0,
-        },
-        PassAnswer::Missing(p) => Answer {
-            refusal: 0,
-            kind: 2,
-            position: p,
-        },
-    }
-}
-
-// The numbers of what a drain answers.
-fn drained_count(answer: DrainAnswer) -> Count
-    ensures { λ r. ⌜ r ≡ drainedCount (drainSaid answer) ⌝ }
-{
-    match answer {
-        DrainAnswer::Refused(n) => Count {
-            refusal: n as u32,
-            count: 0,
-        },
-        DrainAnswer::Count(k) => Count {
-            refusal: 0,
-            count: k,
-        },
-    }
 }
 
 // Opens a session with this packet at position 0. A refused opening returns the session given.
@@ -127,7 +35,7 @@ pub fn open(
     let answer = opened.answer;
     let after = opened.session;
     Answered {
-        answer: held_answer(answer),
+        answer: reorder_c_answers::held_answer(answer),
         session: after,
     }
 }
@@ -140,7 +48,7 @@ pub fn offer(session: Session, store: &mut [u8], packet: &[u8]) -> Answered
     let answer = offered.answer;
     let after = offered.session;
     Answered {
-        answer: held_answer(answer),
+        answer: reorder_c_answers::held_answer(answer),
         session: after,
     }
 }
@@ -153,7 +61,7 @@ pub fn serve(session: Session, out: &mut [u8], store: &[u8]) -> Answered
     let answer = served.answer;
     let after = served.session;
     Answered {
-        answer: served_answer(answer),
+        answer: reorder_c_answers::served_answer(answer),
         session: reorder_session::with_window(session, after.window),
     }
 }
@@ -174,7 +82,7 @@ fn drain_turns(
     let after = reorder_session::with_window(session, returned.window);
     let report = drained.answer;
     let answer = report.answer;
-    let count = drained_count(answer);
+    let count = reorder_c_answers::drained_count(answer);
     let DrainAnswer::Count(_) = answer else {
         return Counted {
             answer: count,
@@ -182,7 +90,7 @@ fn drain_turns(
         };
     };
     let described = report.descriptions;
-    reorder_descriptions::put_descriptions(described, descriptions);
+    reorder_c_answers::put_descriptions(described, descriptions);
     Counted {
         answer: count,
         session: after,
@@ -206,7 +114,7 @@ pub fn drain(
             kind: 0,
             position: 0,
         }; MOST_ANSWERS];
-        reorder_descriptions::put_descriptions(none, descriptions);
+        reorder_c_answers::put_descriptions(none, descriptions);
         return Counted {
             answer: Count {
                 refusal: 0,
@@ -226,7 +134,7 @@ pub fn pass(session: Session) -> Answered
     let answer = passed.answer;
     let after = passed.session;
     Answered {
-        answer: passed_answer(answer),
+        answer: reorder_c_answers::passed_answer(answer),
         session: reorder_session::with_window(session, after.window),
     }
 }

@@ -1,12 +1,13 @@
 // The calls of the reorder buffer with answers in numbers as steps of a history: so demand 3 holds of what they answer and leave.
 use reorder_c::Answered;
 use reorder_c::Counted;
-use reorder_descriptions::DESCRIPTION_NUMBERS;
+use reorder_c_answers::DESCRIPTION_NUMBERS;
 use reorder_session::Session;
 ghost use Rattle.reorder_session.specs.Session.{single};
 ghost use Rattle.reorder_offer.specs.Opening.{openOf};
 ghost use Rattle.reorder_histories.specs.History.{offer, serve, drain, offerTells, serveTells, drainTells, passTells, IsStart, IsStep, IsPassStep};
-ghost use Rattle.reorder_c.specs.Answers.{positionSaid, turnSaid, turnsSaid, OpensAs, OffersAs, ServesAs, DrainsAs, PassesAs};
+ghost use Rattle.reorder_c_answers.specs.Answers.{positionSaid, turnSaid, turnsSaid};
+ghost use Rattle.reorder_c.specs.Calls.{OpensAs, OffersAs, ServesAs, DrainsAs, PassesAs};
 
 // Each of these makes one call. It promises what the call does, and that the call is the start, or a step, of a history.
 pub fn open_start(

@@ -19,7 +19,7 @@ use Rattle.reorder_session.specs.Session.{single}
 use Rattle.reorder_session.specs.Calls.{turn, Drains}
 use Rattle.reorder_turn.specs.Described.{describedAll}
 use Rattle.reorder_serve.proofs.Waits.{drain-waits}
-use Rattle.reorder_c.proofs.Told.{drain-told}
+use Rattle.reorder_c_answers.proofs.Told.{drain-told}
 use borrow.Author.Needs.{needs}
 use Rattle.reorder_c.proofs.drain.Statement.{statement}
 use Rattle.reorder_c.proofs.drain.Tie as tie

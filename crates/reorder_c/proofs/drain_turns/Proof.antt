@@ -12,22 +12,13 @@ use Rattle.reorder_session.specs.declared.Session.{Session}
 use Rattle.reorder_session.specs.Session.{single}
 use Rattle.reorder_session.specs.Calls.{Drains}
 use Rattle.reorder_serve.specs.Report.{drainSaid, reportSaid, counted, descriptions}
-use Rattle.reorder_descriptions.specs.Listed.{listed}
-use Rattle.reorder_c.specs.Answers.{drainedCount, tabled, turnsSaid, Tells}
-use Rattle.reorder_c.proofs.Told.{drain-told}
+use Rattle.reorder_c_answers.specs.Listed.{listed}
+use Rattle.reorder_c_answers.specs.Answers.{drainedCount, tabled, turnsSaid, Tells}
+use Rattle.reorder_c_answers.proofs.Told.{numbers-stay, numbers-listed, drain-told}
 use Rattle.reorder_c.proofs.Window.{drain-windowed, with-its-window}
 use borrow.Author.Needs.{needs}
 use Rattle.reorder_c.proofs.drain_turns.Statement.{statement}
 use Rattle.reorder_c.proofs.drain_turns.Tie as tie
-
--- the lent numbers stay on a refusal, and have the descriptions otherwise
-table-stays : (x : Said (List Turn)) (d : List ℕ) (n : ℕ) → counted x ≡ refused n → d ≡ tabled x d
-table-stays (refused m) d n e = refl
-table-stays (answered ts) d n e = let z : _≡_ {A = ℕ} 0 1 = cc in absurd (omega arith)
-
-table-filled : (x : Said (List Turn)) (d : List ℕ) (k : ℕ) → counted x ≡ answered k → listed (descriptions x) ≡ tabled x d
-table-filled (refused n) d k e = let z : _≡_ {A = ℕ} 0 1 = cc in absurd (omega arith)
-table-filled (answered ts) d k e = refl
 
 abbrev start : tie.After-drained-count → tie.Start
 start c = c .before .before .before .before .before .before .before .before .before .before
@@ -81,7 +72,7 @@ same-length c = search needs
 returns : tie.Need-returns
 returns c =
     let d = c .before .before in
-    told d _ (table-stays (due d) (old d) _ (sym (count-is d) ∙ ap drainSaid (c .enum-told2 .given .1)))
+    told d _ (numbers-stay (due d) (old d) _ (sym (count-is d) ∙ ap drainSaid (c .enum-told2 .given .1)))
 
 put-descriptions-requires : tie.Need-put-descriptions-requires
 put-descriptions-requires c κs = search needs
@@ -96,7 +87,7 @@ returns-2 c =
     told d _
     (c .put-descriptions .ensures
     ∙ ap listed {y = descriptions (due d)} (o .described)
-    ∙ table-filled (due d) (old d) _ (sym (count-is d) ∙ ap drainSaid (c .before .before .before .enum-told .given .1)))
+    ∙ numbers-listed (due d) (old d) _ (sym (count-is d) ∙ ap drainSaid (c .before .before .before .enum-told .given .1)))
 
 pub drain-turns-spec : {M : Type 1} → statement M
 drain-turns-spec =

@@ -1,7 +1,7 @@
 -- What `offer` promises, of the numbers.
 use Rattle.reorder_session.specs.Session.{single}
 use Rattle.reorder_rules.proofs.Numbered.{offer-numbered}
-use Rattle.reorder_c.proofs.Told.{held-told}
+use Rattle.reorder_c_answers.proofs.Told.{held-told}
 use borrow.Author.Needs.{needs}
 use Rattle.reorder_c.proofs.offer.Statement.{statement}
 use Rattle.reorder_c.proofs.offer.Tie as tie

@@ -1,6 +1,6 @@
 -- What `open_or` promises, of the numbers.
 use Rattle.reorder_offer.proofs.Opening.{open-numbered}
-use Rattle.reorder_c.proofs.Told.{held-told}
+use Rattle.reorder_c_answers.proofs.Told.{held-told}
 use borrow.Author.Needs.{needs}
 use Rattle.reorder_c.proofs.open.Statement.{statement}
 use Rattle.reorder_c.proofs.open.Tie as tie

@@ -3,7 +3,7 @@ use mathlib.Core.Path.{refl}
 use Rattle.reorder_session.specs.Session.{single}
 use Rattle.reorder_rules.proofs.Said.{comes-by}
 use Rattle.reorder_rules.proofs.Numbered.{serve-numbered}
-use Rattle.reorder_c.proofs.Told.{served-told}
+use Rattle.reorder_c_answers.proofs.Told.{served-told}
 use Rattle.reorder_c.proofs.Window.{serve-windowed, with-its-window}
 use borrow.Author.Needs.{needs}
 use Rattle.reorder_c.proofs.serve.Statement.{statement}

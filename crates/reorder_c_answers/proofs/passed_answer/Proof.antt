@@ -2,10 +2,10 @@
 use mathlib.Core.Path.{sym, ap}
 use Rattle.reorder_pass.specs.declared.PassAnswer.{PassAnswer}
 use Rattle.reorder_pass.specs.Answer.{passSaid}
-use Rattle.reorder_c.specs.Answers.{passedAnswer}
+use Rattle.reorder_c_answers.specs.Answers.{passedAnswer}
 use borrow.Author.Needs.{needs}
-use Rattle.reorder_c.proofs.passed_answer.Statement.{statement}
-use Rattle.reorder_c.proofs.passed_answer.Tie as tie
+use Rattle.reorder_c_answers.proofs.passed_answer.Statement.{statement}
+use Rattle.reorder_c_answers.proofs.passed_answer.Tie as tie
 
 enum-known-answer : tie.Need-enum-known-answer
 enum-known-answer c = search needs

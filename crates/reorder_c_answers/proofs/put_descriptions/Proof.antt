@@ -5,9 +5,9 @@ use native.Mathlib.Omega.{arith}
 use lib.ListN.{length, length-set}
 use borrow.Author.Needs.{needs}
 use Rattle.octets.specs.Bytes.{put}
-use Rattle.reorder_descriptions.proofs.Listed.{Stored, stored-none, stored-more, stored-length, stored-all}
-use Rattle.reorder_descriptions.proofs.put_descriptions.Statement.{statement}
-use Rattle.reorder_descriptions.proofs.put_descriptions.Tie as tie
+use Rattle.reorder_c_answers.proofs.Listed.{Stored, stored-none, stored-more, stored-length, stored-all}
+use Rattle.reorder_c_answers.proofs.put_descriptions.Statement.{statement}
+use Rattle.reorder_c_answers.proofs.put_descriptions.Tie as tie
 
 abbrev Inv-loop : tie.InvT-loop
 Inv-loop descriptions numbers₀ i₀ numbers i = Stored descriptions numbers₀ numbers i

@@ -11,11 +11,11 @@ use Rattle.reorder_turn.specs.declared.ServeAnswer.the-variants as Sv
 use Rattle.reorder_turn.specs.Answer.{serveSaid}
 use Rattle.reorder_turn.specs.Described.{descriptionOf}
 use Rattle.reorder_turn.proofs.ServeAnswer.{the-type}
-use Rattle.reorder_c.specs.declared.Answer.{Answer}
-use Rattle.reorder_c.specs.Answers.{servedAnswer}
+use Rattle.reorder_c_answers.specs.declared.Answer.{Answer}
+use Rattle.reorder_c_answers.specs.Answers.{servedAnswer}
 use borrow.Author.Needs.{needs}
-use Rattle.reorder_c.proofs.served_answer.Statement.{statement}
-use Rattle.reorder_c.proofs.served_answer.Tie as tie
+use Rattle.reorder_c_answers.proofs.served_answer.Statement.{statement}
+use Rattle.reorder_c_answers.proofs.served_answer.Tie as tie
 
 abbrev told : Description → Answer
 told d = record { refusal = 0; kind = d .kind; position = d .position }

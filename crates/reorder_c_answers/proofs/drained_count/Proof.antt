@@ -2,10 +2,10 @@
 use mathlib.Core.Path.{sym, ap}
 use Rattle.reorder_serve.specs.declared.DrainAnswer.{DrainAnswer}
 use Rattle.reorder_serve.specs.Report.{drainSaid}
-use Rattle.reorder_c.specs.Answers.{drainedCount}
+use Rattle.reorder_c_answers.specs.Answers.{drainedCount}
 use borrow.Author.Needs.{needs}
-use Rattle.reorder_c.proofs.drained_count.Statement.{statement}
-use Rattle.reorder_c.proofs.drained_count.Tie as tie
+use Rattle.reorder_c_answers.proofs.drained_count.Statement.{statement}
+use Rattle.reorder_c_answers.proofs.drained_count.Tie as tie
 
 enum-known-answer : tie.Need-enum-known-answer
 enum-known-answer c = search needs
