@@ -1,7 +1,7 @@
 // Document 01's rules of the reorder buffer ("The rack"), for any kind of session, and their laws. No code but numbers: each kind of session has
 // its calls in crates of its own.
 
-// The most answers that a drain gives: one for each position that can be held.
+// The greatest budget of a drain, and so the most answers that it gives.
 pub const MOST_ANSWERS: usize = window::POSITIONS as usize;
 
 // Held bytes live in a lent store of so many bytes: a packet's for each position.
