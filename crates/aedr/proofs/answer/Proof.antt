@@ -12,18 +12,6 @@ use Rattle.aedr.proofs.answer.Tie as tie
 returns : tie.Need-returns
 returns c = answer-short (now (c .before .before .args .piece)) (omega arith)
 
-sub-packet-refusal : tie.Need-sub-packet-refusal
-sub-packet-refusal c = search needs
-
-part-packet-refusal-start : tie.Need-part-packet-refusal-start
-part-packet-refusal-start c = search needs
-
-part-packet-refusal-end : tie.Need-part-packet-refusal-end
-part-packet-refusal-end c = search needs
-
-packet-refusal-requires : tie.Need-packet-refusal-requires
-packet-refusal-requires c κs = search needs
-
 returns-2 : tie.Need-returns-2
 returns-2 c =
     let p = now (c .before .before .before .before .args .piece) in answer-packet p (length p - headerSize) _ (omega arith) (c .packet-refusal .ensures)
@@ -33,8 +21,8 @@ answer-spec =
     tie.close
     (tie.spec
     returns
-    sub-packet-refusal
-    part-packet-refusal-start
-    part-packet-refusal-end
-    packet-refusal-requires
+    (λ c. search needs)
+    (λ c. search needs)
+    (λ c. search needs)
+    (λ c κs. search needs)
     returns-2)

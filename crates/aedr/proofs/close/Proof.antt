@@ -19,12 +19,6 @@ returns : tie.Need-returns
 returns c =
     let a = c .before .before .args in (no-closing (now (a .out)) (a .n) (c .if1 .taken), counts (now (a .out)) 0 (omega arith))
 
-slice-aggregate-write-into : tie.Need-slice-aggregate-write-into
-slice-aggregate-write-into c = search needs
-
-write-into-requires : tie.Need-write-into-requires
-write-into-requires c κs = search needs
-
 put-number-requires : tie.Need-put-number-requires
 put-number-requires c κs = omega (arith, digits-room (c .before .before .before .before .before .before .before .before), c .before .before .before .write-into .kept)
 
@@ -52,8 +46,8 @@ close-spec =
     tie.close
     (tie.spec
     returns
-    slice-aggregate-write-into
-    write-into-requires
+    (λ c. search needs)
+    (λ c κs. search needs)
     put-number-requires
     slice-write-out
     add-result

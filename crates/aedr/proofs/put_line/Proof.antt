@@ -14,9 +14,6 @@ use Rattle.aedr.proofs.put_line.Tie as tie
 digits-room : (s : tie.Start) → (length (decimal (s .args .number)) ≤ 20) × (length (decimal (s .args .answer)) ≤ 2)
 digits-room s = (decimal-length 19 (s .args .number) (omega arith), decimal-length 1 (s .args .answer) (omega arith))
 
-put-number-requires : tie.Need-put-number-requires
-put-number-requires c κs = omega (arith, digits-room (c .before .before))
-
 slice-write-out : tie.Need-slice-write-out
 slice-write-out c = omega (arith, digits-room (c .before .before .before .before .before), c .before .before .put-number .ensures .0, c .before .before .put-number .kept .0)
 
@@ -57,7 +54,7 @@ pub put-line-spec : {M : Type 1} → statement M
 put-line-spec =
     tie.close
     (tie.spec
-    put-number-requires
+    (λ c κs. omega (arith, digits-room (c .before .before)))
     slice-write-out
     add-put-number
     put-number-requires-2

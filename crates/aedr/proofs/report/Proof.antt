@@ -7,28 +7,16 @@ use Rattle.aedr.proofs.Texts.{counts}
 use Rattle.aedr.proofs.report.Statement.{statement}
 use Rattle.aedr.proofs.report.Tie as tie
 
-count-pieces-requires : tie.Need-count-pieces-requires
-count-pieces-requires c κs = search needs
-
 returns : tie.Need-returns
 returns c =
     let a = c .before .before .before .before .args in
     (no-room (now (a .input)) (now (a .out)) (a .done) (omega (arith, c .before .count-pieces .ensures)), counts (now (a .out)) 0 (omega arith))
-
-sub-if2 : tie.Need-sub-if2
-sub-if2 c = search needs
 
 returns-2 : tie.Need-returns-2
 returns-2 c =
     let a = c .before .before .before .before .before .args in
     let n = c .before .before .count-pieces .ensures in
     (no-numbers (now (a .input)) (now (a .out)) (a .done) (omega arith), counts (now (a .out)) 0 (omega arith))
-
-put-lines-requires : tie.Need-put-lines-requires
-put-lines-requires c κs = search needs
-
-same-length : tie.Need-same-length
-same-length c = search needs
 
 returns-3 : tie.Need-returns-3
 returns-3 c =
@@ -43,10 +31,10 @@ pub report-spec : {M : Type 1} → statement M
 report-spec =
     tie.close
     (tie.spec
-    count-pieces-requires
+    (λ c κs. search needs)
     returns
-    sub-if2
+    (λ c. search needs)
     returns-2
-    put-lines-requires
-    same-length
+    (λ c κs. search needs)
+    (λ c. search needs)
     returns-3)

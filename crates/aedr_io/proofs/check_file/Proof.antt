@@ -16,9 +16,6 @@ slice-aggregate-run-2 c = sym (length-replicate {A = ℕ} _ 0)
 run-requires : tie.Need-run-requires
 run-requires c κs = (length-replicate {A = ℕ} chunkSize 0, length-replicate {A = ℕ} chunkRoom 0)
 
-returns : tie.Need-returns
-returns c = search needs
-
 pub check-file-spec : {M : Type 1} → statement M
 check-file-spec =
-    tie.close (tie.spec slice-aggregate-run slice-aggregate-run-2 run-requires returns)
+    tie.close (tie.spec slice-aggregate-run slice-aggregate-run-2 run-requires (λ c. search needs))

@@ -15,42 +15,12 @@ use Rattle.aedr_io.proofs.Printing.{printed-chunk}
 use Rattle.aedr_io.proofs.print_chunk.Statement.{statement}
 use Rattle.aedr_io.proofs.print_chunk.Tie as tie
 
-fill-requires : tie.Need-fill-requires
-fill-requires c κs = search needs
-
-count-requires : tie.Need-count-requires
-count-requires c κs = search needs
-
 slice-reshare-prefix-report : tie.Need-slice-reshare-prefix-report
 slice-reshare-prefix-report c = omega (arith, count-fits (c .before .before .before .fill .result) _ (c .before .before .before .fill .ensures))
 
 slice-aggregate-report : tie.Need-slice-aggregate-report
 slice-aggregate-report c =
     let f = c .before .before .before .before .fill in sym (length-take-le (c .before .count .result) _ (omega (arith, count-fits (f .result) _ (f .ensures))))
-
-report-requires : tie.Need-report-requires
-report-requires c κs = search needs
-
-slice-reshare-prefix-print : tie.Need-slice-reshare-prefix-print
-slice-reshare-prefix-print c = search needs
-
-slice-aggregate-print : tie.Need-slice-aggregate-print
-slice-aggregate-print c = search needs
-
-print-requires : tie.Need-print-requires
-print-requires c κs = search needs
-
-after-chunk-requires : tie.Need-after-chunk-requires
-after-chunk-requires c κs = search needs
-
-records-after-requires : tie.Need-records-after-requires
-records-after-requires c κs = search needs
-
-same-length : tie.Need-same-length
-same-length c = search needs
-
-same-length-2 : tie.Need-same-length-2
-same-length-2 c = search needs
 
 returns : tie.Need-returns
 returns c =
@@ -74,16 +44,16 @@ pub print-chunk-spec : {M : Type 1} → statement M
 print-chunk-spec =
     tie.close
     (tie.spec
-    fill-requires
-    count-requires
+    (λ c κs. search needs)
+    (λ c κs. search needs)
     slice-reshare-prefix-report
     slice-aggregate-report
-    report-requires
-    slice-reshare-prefix-print
-    slice-aggregate-print
-    print-requires
-    after-chunk-requires
-    records-after-requires
-    same-length
-    same-length-2
+    (λ c κs. search needs)
+    (λ c. search needs)
+    (λ c. search needs)
+    (λ c κs. search needs)
+    (λ c κs. search needs)
+    (λ c κs. search needs)
+    (λ c. search needs)
+    (λ c. search needs)
     returns)

@@ -17,33 +17,11 @@ Inv-loop fd buf₀ out₀ records₀ full₀ buf out records full = (length buf 
 abbrev μ-loop : tie.MeasureT-loop
 μ-loop fd buf₀ out₀ records₀ full₀ buf out records full = chunksMost - full
 
-loop-holds : tie.Need-loop-holds Inv-loop μ-loop
-loop-holds c = search needs
-
-print-chunk-requires : tie.Need-print-chunk-requires Inv-loop μ-loop
-print-chunk-requires c κs = search needs
-
-continues-requires : tie.Need-continues-requires Inv-loop μ-loop
-continues-requires c κs = search needs
-
-same-length : tie.Need-same-length Inv-loop μ-loop
-same-length c = search needs
-
-same-length-2 : tie.Need-same-length-2 Inv-loop μ-loop
-same-length-2 c = search needs
-
 returns : tie.Need-returns Inv-loop μ-loop
 returns c =
     let l = c .before .before .before .before .before .before .before .before .before .loop in
     let p = c .before .before .before .before .before .before .print-chunk in
     ends (p .result) (l .full) (l .records) _ _ (p .ensures) (sym (c .before .continues .ensures) ∙ not-true _ (c .if1 .taken)) (l .inv .3) (l .inv .2)
-
-add-full : tie.Need-add-full Inv-loop μ-loop
-add-full c = search needs
-
-loop-less : tie.Need-loop-less Inv-loop μ-loop
-loop-less c =
-    let l = c .before .before .before .before .before .before .before .before .before .loop in omega (arith, l .inv .2)
 
 loop-again : tie.Need-loop-again Inv-loop μ-loop
 loop-again c =
@@ -58,12 +36,12 @@ print-chunks-spec =
     (tie.spec
     Inv-loop
     μ-loop
-    loop-holds
-    print-chunk-requires
-    continues-requires
-    same-length
-    same-length-2
+    (λ c. search needs)
+    (λ c κs. search needs)
+    (λ c κs. search needs)
+    (λ c. search needs)
+    (λ c. search needs)
     returns
-    add-full
-    loop-less
+    (λ c. search needs)
+    (λ c. search needs)
     loop-again)

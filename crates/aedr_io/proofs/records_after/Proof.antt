@@ -15,38 +15,11 @@ added : (s : tie.Start) (pieces : ℕ) → pieces ≡ piecesIn (s .args .read) �
 added s pieces e next q d =
     ap (λ (k : ℕ). s .args .records + k) e ∙ sym d ∙ ap (λ (x : Next). recordsAfter x (s .args .records) (s .args .read)) (sym q)
 
-count-pieces-requires : tie.Need-count-pieces-requires
-count-pieces-requires c κs = search needs
-
-enum-told : tie.Need-enum-told
-enum-told c = search needs
-
-add-result : tie.Need-add-result
-add-result c = search needs
-
-enum-told-2 : tie.Need-enum-told-2
-enum-told-2 c = search needs
-
-add-result-2 : tie.Need-add-result-2
-add-result-2 c = search needs
-
-enum-told-3 : tie.Need-enum-told-3
-enum-told-3 c = search needs
-
-enum-told-4 : tie.Need-enum-told-4
-enum-told-4 c = search needs
-
-add-result-3 : tie.Need-add-result-3
-add-result-3 c = search needs
-
 returns : tie.Need-returns
 returns c = added (c .before .before .before) _ (c .before .before .count-pieces .ensures) _ (c .enum-told .given .1) refl
 
 returns-2 : tie.Need-returns-2
 returns-2 c = added (c .before .before .before) _ (c .before .before .count-pieces .ensures) _ (c .enum-told2 .given .1) refl
-
-returns-3 : tie.Need-returns-3
-returns-3 c = search needs
 
 returns-4 : tie.Need-returns-4
 returns-4 c = added (c .before .before .before) _ (c .before .before .count-pieces .ensures) _ (c .enum-told4 .given .1) refl
@@ -55,15 +28,15 @@ pub records-after-spec : {M : Type 1} → statement M
 records-after-spec =
     tie.close
     (tie.spec
-    count-pieces-requires
-    enum-told
-    add-result
-    enum-told-2
-    add-result-2
-    enum-told-3
-    enum-told-4
-    add-result-3
+    (λ c κs. search needs)
+    (λ c. search needs)
+    (λ c. search needs)
+    (λ c. search needs)
+    (λ c. search needs)
+    (λ c. search needs)
+    (λ c. search needs)
+    (λ c. search needs)
     returns
     returns-2
-    returns-3
+    (λ c. search needs)
     returns-4)

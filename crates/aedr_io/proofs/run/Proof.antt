@@ -14,18 +14,6 @@ use Rattle.aedr_io.proofs.Printing.{not-closed, closed}
 use Rattle.aedr_io.proofs.run.Statement.{statement}
 use Rattle.aedr_io.proofs.run.Tie as tie
 
-print-chunks-requires : tie.Need-print-chunks-requires
-print-chunks-requires c κs = search needs
-
-closes-requires : tie.Need-closes-requires
-closes-requires c κs = search needs
-
-same-length : tie.Need-same-length
-same-length c = search needs
-
-same-length-2 : tie.Need-same-length-2
-same-length-2 c = search needs
-
 returns : tie.Need-returns
 returns c =
     let r = c .before .before .before .before .before .before .before .before .print-chunks in
@@ -34,30 +22,6 @@ returns c =
       total-text = λ e. absurd (false≢true e);
       total-written = λ e. absurd (false≢true e);
     }
-
-close-requires : tie.Need-close-requires
-close-requires c κs = search needs
-
-slice-reshare-prefix-print : tie.Need-slice-reshare-prefix-print
-slice-reshare-prefix-print c = search needs
-
-slice-aggregate-print : tie.Need-slice-aggregate-print
-slice-aggregate-print c = search needs
-
-print-requires : tie.Need-print-requires
-print-requires c κs = search needs
-
-after-chunk-requires : tie.Need-after-chunk-requires
-after-chunk-requires c κs = search needs
-
-closes-requires-2 : tie.Need-closes-requires-2
-closes-requires-2 c κs = search needs
-
-same-length-3 : tie.Need-same-length-3
-same-length-3 c = search needs
-
-same-length-4 : tie.Need-same-length-4
-same-length-4 c = search needs
 
 returns-2 : tie.Need-returns-2
 returns-2 c =
@@ -78,17 +42,17 @@ pub run-spec : {M : Type 1} → statement M
 run-spec =
     tie.close
     (tie.spec
-    print-chunks-requires
-    closes-requires
-    same-length
-    same-length-2
+    (λ c κs. search needs)
+    (λ c κs. search needs)
+    (λ c. search needs)
+    (λ c. search needs)
     returns
-    close-requires
-    slice-reshare-prefix-print
-    slice-aggregate-print
-    print-requires
-    after-chunk-requires
-    closes-requires-2
-    same-length-3
-    same-length-4
+    (λ c κs. search needs)
+    (λ c. search needs)
+    (λ c. search needs)
+    (λ c κs. search needs)
+    (λ c κs. search needs)
+    (λ c κs. search needs)
+    (λ c. search needs)
+    (λ c. search needs)
     returns-2)

@@ -20,15 +20,6 @@ abbrev μ-loop : tie.MeasureT-loop
 returns : tie.Need-returns Inv-loop μ-loop
 returns c = sum-none (now (c .before .before .args .bytes)) (c .if1 .taken)
 
-shared-slice-read-wide : tie.Need-shared-slice-read-wide Inv-loop μ-loop
-shared-slice-read-wide c = search needs
-
-wide-requires : tie.Need-wide-requires Inv-loop μ-loop
-wide-requires c κs = search needs
-
-mul-sum : tie.Need-mul-sum Inv-loop μ-loop
-mul-sum c = search needs
-
 loop-holds : tie.Need-loop-holds Inv-loop μ-loop
 loop-holds c =
     let s = now (c .before .before .before .before .args .bytes) in (
@@ -37,21 +28,6 @@ loop-holds c =
       omega arith,
       ap (λ (n : ℕ). (n * 256 + lowSum (drop 1 s)) % 65536) (c .wide .ensures .0) ∙ sum-first s (omega arith),
     )
-
-sub-loop : tie.Need-sub-loop Inv-loop μ-loop
-sub-loop c = search needs
-
-halves-requires : tie.Need-halves-requires Inv-loop μ-loop
-halves-requires c κs = search needs
-
-wrapping-add-u16-requires : tie.Need-wrapping-add-u16-requires Inv-loop μ-loop
-wrapping-add-u16-requires c κs = search needs
-
-add-i : tie.Need-add-i Inv-loop μ-loop
-add-i c = search needs
-
-loop-less : tie.Need-loop-less Inv-loop μ-loop
-loop-less c = search needs
 
 loop-again : tie.Need-loop-again Inv-loop μ-loop
 loop-again c =
@@ -64,15 +40,6 @@ loop-again c =
           (low-pair s (l .i) (omega arith) ∙ ap (λ (v : ℕ). v + lowSum (drop (l .i + 2) s)) (sym (c .before .halves .ensures)))
           (c .wrapping-add-u16 .ensures) (l .inv .3),
     )
-
-u8-at-requires : tie.Need-u8-at-requires Inv-loop μ-loop
-u8-at-requires c κs = search needs
-
-wide-requires-2 : tie.Need-wide-requires-2 Inv-loop μ-loop
-wide-requires-2 c κs = search needs
-
-wrapping-add-u16-requires-2 : tie.Need-wrapping-add-u16-requires-2 Inv-loop μ-loop
-wrapping-add-u16-requires-2 c κs = search needs
 
 returns-2 : tie.Need-returns-2 Inv-loop μ-loop
 returns-2 c =
@@ -89,17 +56,17 @@ words-sum-spec =
     Inv-loop
     μ-loop
     returns
-    shared-slice-read-wide
-    wide-requires
-    mul-sum
+    (λ c. search needs)
+    (λ c κs. search needs)
+    (λ c. search needs)
     loop-holds
-    sub-loop
-    halves-requires
-    wrapping-add-u16-requires
-    add-i
-    loop-less
+    (λ c. search needs)
+    (λ c κs. search needs)
+    (λ c κs. search needs)
+    (λ c. search needs)
+    (λ c. search needs)
     loop-again
-    u8-at-requires
-    wide-requires-2
-    wrapping-add-u16-requires-2
+    (λ c κs. search needs)
+    (λ c κs. search needs)
+    (λ c κs. search needs)
     returns-2)

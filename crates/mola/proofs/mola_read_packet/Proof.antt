@@ -8,21 +8,6 @@ use borrow.Author.Needs.{needs}
 use Rattle.mola.proofs.mola_read_packet.Statement.{statement}
 use Rattle.mola.proofs.mola_read_packet.Tie as tie
 
-read-answer-requires : tie.Need-read-answer-requires
-read-answer-requires c κs = search needs
-
-enum-known-answer : tie.Need-enum-known-answer
-enum-known-answer c = search needs
-
-cast-t7 : tie.Need-cast-t7
-cast-t7 c = search needs
-
-no-fields-requires : tie.Need-no-fields-requires
-no-fields-requires c κs = search needs
-
-enum-known-answer-2 : tie.Need-enum-known-answer-2
-enum-known-answer-2 c = search needs
-
 returns : tie.Need-returns
 returns c =
     ap (λ (f : PacketFields). record { refusal = c .before .before .answer .given .0 .0; fields = f }) (c .no-fields .ensures)
@@ -37,10 +22,10 @@ pub mola-read-packet-spec : {M : Type 1} → statement M
 mola-read-packet-spec =
     tie.close
     (tie.spec
-    read-answer-requires
-    enum-known-answer
-    cast-t7
-    no-fields-requires
-    enum-known-answer-2
+    (λ c κs. search needs)
+    (λ c. search needs)
+    (λ c. search needs)
+    (λ c κs. search needs)
+    (λ c. search needs)
     returns
     returns-2)

@@ -7,14 +7,8 @@ use borrow.Author.Needs.{needs}
 use Rattle.octets.proofs.i16_at.Statement.{statement}
 use Rattle.octets.proofs.i16_at.Tie as tie
 
-u16-at-requires : tie.Need-u16-at-requires
-u16-at-requires c κs = search needs
-
-to-i16-requires : tie.Need-to-i16-requires
-to-i16-requires c κs = search needs
-
 returns : tie.Need-returns
 returns c = held w16 (c .to-i16 .ok) (c .to-i16 .ensures ∙ ap (signed 16) (c .before .u16-at .ensures))
 
 pub i16-at-spec : {M : Type 1} → statement M
-i16-at-spec = tie.close (tie.spec u16-at-requires to-i16-requires returns)
+i16-at-spec = tie.close (tie.spec (λ c κs. search needs) (λ c κs. search needs) returns)

@@ -7,14 +7,8 @@ use borrow.Author.Needs.{needs}
 use Rattle.octets.proofs.i32_at.Statement.{statement}
 use Rattle.octets.proofs.i32_at.Tie as tie
 
-u32-at-requires : tie.Need-u32-at-requires
-u32-at-requires c κs = search needs
-
-to-i32-requires : tie.Need-to-i32-requires
-to-i32-requires c κs = search needs
-
 returns : tie.Need-returns
 returns c = held w32 (c .to-i32 .ok) (c .to-i32 .ensures ∙ ap (signed 32) (c .before .u32-at .ensures))
 
 pub i32-at-spec : {M : Type 1} → statement M
-i32-at-spec = tie.close (tie.spec u32-at-requires to-i32-requires returns)
+i32-at-spec = tie.close (tie.spec (λ c κs. search needs) (λ c κs. search needs) returns)

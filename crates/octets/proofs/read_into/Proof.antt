@@ -1,12 +1,13 @@
 -- One law of loops that fill a list, at the bytes from index i on.
 use Prim.Native.Nat.{_+_, _-_, min}
-use mathlib.Core.Path.{_≡_, _∙_, refl}
+use mathlib.Core.Path.{_≡_, _∙_}
 use denote.Ref.{now}
 use native.Mathlib.Omega.{arith}
 use lib.ListN.{length, getD, length-set}
 use Rattle.octets.specs.Table.{octetsAt}
 use Rattle.octets.proofs.Fill.{Filled, fill-more, fill-done}
 use Rattle.octets.proofs.Read.{past-end}
+use borrow.Author.Needs.{needs}
 use Rattle.octets.proofs.read_into.Statement.{statement}
 use Rattle.octets.proofs.read_into.Tie as tie
 
@@ -15,27 +16,6 @@ Inv-loop bytes i out₀ from k₀ out k = (from ≡ min i (length bytes)) × (le
 
 abbrev μ-loop : tie.MeasureT-loop
 μ-loop bytes i out₀ from k₀ out k = length out₀ - k
-
-least-requires : tie.Need-least-requires Inv-loop μ-loop
-least-requires c κs = omega arith
-
-loop-holds : tie.Need-loop-holds Inv-loop μ-loop
-loop-holds c = (c .least .ensures, refl, (omega arith, refl))
-
-add-u8-at : tie.Need-add-u8-at Inv-loop μ-loop
-add-u8-at c = omega arith
-
-u8-at-requires : tie.Need-u8-at-requires Inv-loop μ-loop
-u8-at-requires c κs = omega arith
-
-slice-write-out : tie.Need-slice-write-out Inv-loop μ-loop
-slice-write-out c = omega arith
-
-add-k : tie.Need-add-k Inv-loop μ-loop
-add-k c = omega arith
-
-loop-less : tie.Need-loop-less Inv-loop μ-loop
-loop-less c = omega arith
 
 loop-again : tie.Need-loop-again Inv-loop μ-loop
 loop-again c =
@@ -47,9 +27,6 @@ loop-again c =
       rw length-set (l .inv .1),
       fill-more (λ k. getD (now (a .bytes)) (a .i + k) 0) (now (a .out)) (l .out) (l .k) _ (omega arith) v (l .inv .2),
     )
-
-same-length : tie.Need-same-length Inv-loop μ-loop
-same-length c = c .before .loop .inv .1
 
 returns : tie.Need-returns Inv-loop μ-loop
 unfolding octetsAt
@@ -64,13 +41,13 @@ read-into-spec =
     (tie.spec
     Inv-loop
     μ-loop
-    least-requires
-    loop-holds
-    add-u8-at
-    u8-at-requires
-    slice-write-out
-    add-k
-    loop-less
+    (λ c κs. omega arith)
+    (λ c. search needs)
+    (λ c. omega arith)
+    (λ c κs. omega arith)
+    (λ c. omega arith)
+    (λ c. omega arith)
+    (λ c. omega arith)
     loop-again
-    same-length
+    (λ c. search needs)
     returns)

@@ -6,18 +6,6 @@ use borrow.Author.Needs.{needs}
 use Rattle.octets.proofs.to_i16.Statement.{statement}
 use Rattle.octets.proofs.to_i16.Tie as tie
 
-cast-result : tie.Need-cast-result
-cast-result c = search needs
-
-sub-result : tie.Need-sub-result
-sub-result c = search needs
-
-cast-result-2 : tie.Need-cast-result-2
-cast-result-2 c = search needs
-
-sub-result-2 : tie.Need-sub-result-2
-sub-result-2 c = lower-fits w16 (c .before .args .x) (c .before .fits .x) (c .if1 .left)
-
 returns : tie.Need-returns
 returns c = simp (lt-ltb _ _ (c .if1 .taken))
 
@@ -28,4 +16,4 @@ returns-2 c =
 
 pub to-i16-spec : {M : Type 1} → statement M
 to-i16-spec =
-    tie.close (tie.spec cast-result sub-result cast-result-2 sub-result-2 returns returns-2)
+    tie.close (tie.spec (λ c. search needs) (λ c. search needs) (λ c. search needs) (λ c. lower-fits w16 (c .before .args .x) (c .before .fits .x) (c .if1 .left)) returns returns-2)

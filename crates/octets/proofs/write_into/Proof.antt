@@ -5,6 +5,7 @@ use denote.Ref.{now}
 use native.Mathlib.Omega.{arith}
 use lib.ListN.{length}
 use Rattle.octets.proofs.Store.{Stored, store-none, store-more, store-done}
+use borrow.Author.Needs.{needs}
 use Rattle.octets.proofs.write_into.Statement.{statement}
 use Rattle.octets.proofs.write_into.Tie as tie
 
@@ -15,34 +16,10 @@ Inv-loop bytes i out₀ from n k₀ out k =
 abbrev μ-loop : tie.MeasureT-loop
 μ-loop bytes i out₀ from n k₀ out k = n - k
 
-least-requires : tie.Need-least-requires Inv-loop μ-loop
-least-requires c κs = omega arith
-
-sub-least : tie.Need-sub-least Inv-loop μ-loop
-sub-least c = omega arith
-
-least-requires-2 : tie.Need-least-requires-2 Inv-loop μ-loop
-least-requires-2 c κs = omega arith
-
 loop-holds : tie.Need-loop-holds Inv-loop μ-loop
 loop-holds c =
     let a = c .before .before .before .before .args in
     (c .before .least .ensures, c .least2 .ensures, omega arith, store-none (now (a .bytes)) (c .before .least .result) (now (a .out)))
-
-shared-slice-read-out : tie.Need-shared-slice-read-out Inv-loop μ-loop
-shared-slice-read-out c = omega arith
-
-add-out : tie.Need-add-out Inv-loop μ-loop
-add-out c = omega arith
-
-slice-write-out : tie.Need-slice-write-out Inv-loop μ-loop
-slice-write-out c = omega arith
-
-add-k : tie.Need-add-k Inv-loop μ-loop
-add-k c = omega arith
-
-loop-less : tie.Need-loop-less Inv-loop μ-loop
-loop-less c = omega arith
 
 loop-again : tie.Need-loop-again Inv-loop μ-loop
 loop-again c =
@@ -53,9 +30,6 @@ loop-again c =
       omega arith,
       store-more (now (a .bytes)) (now (a .out)) (l .out) _ (l .k) (omega arith) (l .inv .3),
     )
-
-same-length : tie.Need-same-length Inv-loop μ-loop
-same-length c = c .before .loop .inv .3 .0
 
 returns : tie.Need-returns Inv-loop μ-loop
 returns c =
@@ -69,15 +43,15 @@ write-into-spec =
     (tie.spec
     Inv-loop
     μ-loop
-    least-requires
-    sub-least
-    least-requires-2
+    (λ c κs. omega arith)
+    (λ c. omega arith)
+    (λ c κs. omega arith)
     loop-holds
-    shared-slice-read-out
-    add-out
-    slice-write-out
-    add-k
-    loop-less
+    (λ c. omega arith)
+    (λ c. omega arith)
+    (λ c. omega arith)
+    (λ c. omega arith)
+    (λ c. omega arith)
     loop-again
-    same-length
+    (λ c. search needs)
     returns)

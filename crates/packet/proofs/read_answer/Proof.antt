@@ -7,16 +7,10 @@ use borrow.Author.Needs.{needs}
 use Rattle.packet.proofs.read_answer.Statement.{statement}
 use Rattle.packet.proofs.read_answer.Tie as tie
 
-packet-refusal-requires : tie.Need-packet-refusal-requires
-packet-refusal-requires c κs = search needs
-
 returns : tie.Need-returns
 returns c =
     let s = now (c .before .before .before .args .bytes) in
     say-refused _ _ (fieldsOf s) (c .before .packet-refusal .ensures) (c .if1 .taken)
-
-read-fields-requires : tie.Need-read-fields-requires
-read-fields-requires c κs = search needs
 
 returns-2 : tie.Need-returns-2
 returns-2 c =
@@ -25,4 +19,4 @@ returns-2 c =
     say-answered _ (fieldsOf s) _ z (c .read-fields .ensures)
 
 pub read-answer-spec : {M : Type 1} → statement M
-read-answer-spec = tie.close (tie.spec packet-refusal-requires returns read-fields-requires returns-2)
+read-answer-spec = tie.close (tie.spec (λ c κs. search needs) returns (λ c κs. search needs) returns-2)

@@ -1,98 +1,31 @@
 -- Field by field, each from its own read.
-use Prim.Native.Nat.{ℕ, _/_, _%_}
-use mathlib.Core.Path.{ap}
 use Rattle.packet.specs.Fields.{fieldsOf}
 use borrow.Author.Needs.{needs}
 use Rattle.packet.proofs.read_fields.Statement.{statement}
 use Rattle.packet.proofs.read_fields.Tie as tie
 
-u16-at-requires : tie.Need-u16-at-requires
-u16-at-requires c κs = search needs
-
-cast-t5 : tie.Need-cast-t5
-cast-t5 c = search needs
-
-u16-at-requires-2 : tie.Need-u16-at-requires-2
-u16-at-requires-2 c κs = search needs
-
-u32-at-requires : tie.Need-u32-at-requires
-u32-at-requires c κs = search needs
-
-u8-at-requires : tie.Need-u8-at-requires
-u8-at-requires c κs = search needs
-
-u8-at-requires-2 : tie.Need-u8-at-requires-2
-u8-at-requires-2 c κs = search needs
-
-u8-at-requires-3 : tie.Need-u8-at-requires-3
-u8-at-requires-3 c κs = search needs
-
-u16-at-requires-3 : tie.Need-u16-at-requires-3
-u16-at-requires-3 c κs = search needs
-
-u16-at-requires-4 : tie.Need-u16-at-requires-4
-u16-at-requires-4 c κs = search needs
-
-u16-at-requires-5 : tie.Need-u16-at-requires-5
-u16-at-requires-5 c κs = search needs
-
-u16-at-requires-6 : tie.Need-u16-at-requires-6
-u16-at-requires-6 c κs = search needs
-
-u8-at-requires-4 : tie.Need-u8-at-requires-4
-u8-at-requires-4 c κs = search needs
-
-u8-at-requires-5 : tie.Need-u8-at-requires-5
-u8-at-requires-5 c κs = search needs
-
-u8-at-requires-6 : tie.Need-u8-at-requires-6
-u8-at-requires-6 c κs = search needs
-
-u8-at-requires-7 : tie.Need-u8-at-requires-7
-u8-at-requires-7 c κs = search needs
-
-u16-at-requires-7 : tie.Need-u16-at-requires-7
-u16-at-requires-7 c κs = search needs
-
 returns : tie.Need-returns
 unfolding fieldsOf
-returns c =
-    λ i. record {
-      «error_status» = ap (λ (w : ℕ). w / 256 % 8) (c .before .before .before .before .before .before .before .before .before .before .before .before .before .before .u16-at .ensures) i;
-      count = ap (λ (w : ℕ). w % 16384) (c .before .before .before .before .before .before .before .before .before .before .before .before .before .u16-at2 .ensures) i;
-      «coarse_time» = c .before .before .before .before .before .before .before .before .before .before .before .before .u32-at .ensures i;
-      «fine_time» = c .before .before .before .before .before .before .before .before .before .before .before .u8-at .ensures i;
-      «status_register» = c .before .before .before .before .before .before .before .before .before .before .u8-at2 .ensures i;
-      «software_version» = c .before .before .before .before .before .before .before .before .before .u8-at3 .ensures i;
-      «ram_flag_word» = c .before .before .before .before .before .before .before .before .u16-at3 .ensures i;
-      «status_word_1» = c .before .before .before .before .before .before .before .u16-at4 .ensures i;
-      «status_word_2» = c .before .before .before .before .before .before .u16-at5 .ensures i;
-      «software_checksum» = c .before .before .before .before .before .u16-at6 .ensures i;
-      «commands_received» = c .before .before .before .before .u8-at4 .ensures i;
-      «command_errors» = c .before .before .before .u8-at5 .ensures i;
-      «transmitter_threshold» = c .before .before .u8-at6 .ensures i;
-      «tracking_status» = c .before .u8-at7 .ensures i;
-      hstart = c .u16-at7 .ensures i;
-    }
+returns c = cc
 
 pub read-fields-spec : {M : Type 1} → statement M
 read-fields-spec =
     tie.close
     (tie.spec
-    u16-at-requires
-    cast-t5
-    u16-at-requires-2
-    u32-at-requires
-    u8-at-requires
-    u8-at-requires-2
-    u8-at-requires-3
-    u16-at-requires-3
-    u16-at-requires-4
-    u16-at-requires-5
-    u16-at-requires-6
-    u8-at-requires-4
-    u8-at-requires-5
-    u8-at-requires-6
-    u8-at-requires-7
-    u16-at-requires-7
+    (λ c κs. search needs)
+    (λ c. search needs)
+    (λ c κs. search needs)
+    (λ c κs. search needs)
+    (λ c κs. search needs)
+    (λ c κs. search needs)
+    (λ c κs. search needs)
+    (λ c κs. search needs)
+    (λ c κs. search needs)
+    (λ c κs. search needs)
+    (λ c κs. search needs)
+    (λ c κs. search needs)
+    (λ c κs. search needs)
+    (λ c κs. search needs)
+    (λ c κs. search needs)
+    (λ c κs. search needs)
     returns)

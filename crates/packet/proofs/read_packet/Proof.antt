@@ -19,22 +19,10 @@ none s word n e = let r = refusal-said n (readRefusal s word) (fieldsOf s) e in 
 all : (s : List ℕ) (word : ℕ) (f : PacketFields) (a : PacketArrays) → answered f ≡ readDue s word → a ≡ arraysOf s → a ≡ readArrays s word
 all s word f a e q = let r = answer-said (readRefusal s word) (fieldsOf s) f e in after-done _ (arraysOf s) noArrays a (r .0) q
 
-read-answer-requires : tie.Need-read-answer-requires
-read-answer-requires c κs = search needs
-
-enum-told : tie.Need-enum-told
-enum-told c = search needs
-
-enum-told-2 : tie.Need-enum-told-2
-enum-told-2 c = search needs
-
 returns : tie.Need-returns
 returns c =
     let e = c .before .before .read-answer .ensures in
     (e, none _ _ _ (ap packetSaid (sym (c .enum-told2 .given .1)) ∙ e))
-
-read-arrays-requires : tie.Need-read-arrays-requires
-read-arrays-requires c κs = search needs
 
 returns-2 : tie.Need-returns-2
 returns-2 c =
@@ -44,4 +32,4 @@ returns-2 c =
 pub read-packet-spec : {M : Type 1} → statement M
 read-packet-spec =
     tie.close
-    (tie.spec read-answer-requires enum-told enum-told-2 returns read-arrays-requires returns-2)
+    (tie.spec (λ c κs. search needs) (λ c. search needs) (λ c. search needs) returns (λ c κs. search needs) returns-2)

@@ -1,9 +1,10 @@
 -- One law of loops that fill a list, at the starts; no start wraps.
 use Prim.Native.Nat.{ℕ, _+_, _-_, _*_, _<_}
-use mathlib.Core.Path.{_≡_, refl, ap}
+use mathlib.Core.Path.{_≡_, ap}
 use native.Mathlib.Omega.{arith}
 use Rattle.octets.proofs.Fill.{Filled, fill-more, fill-done}
 use Rattle.packet_bins.specs.Bins.{firstBin, binStart, binStarts}
+use borrow.Author.Needs.{needs}
 use Rattle.packet_bins.proofs.bin_starts.Statement.{statement}
 use Rattle.packet_bins.proofs.bin_starts.Tie as tie
 
@@ -12,39 +13,6 @@ Inv-loop hstart first starts₀ j₀ starts j = (first ≡ firstBin hstart) × (
 
 abbrev μ-loop : tie.MeasureT-loop
 μ-loop hstart first starts₀ j₀ starts j = 48 - j
-
-first-bin-requires : tie.Need-first-bin-requires Inv-loop μ-loop
-first-bin-requires c κs = omega arith
-
-cast-first : tie.Need-cast-first Inv-loop μ-loop
-cast-first c = omega arith
-
-loop-holds : tie.Need-loop-holds Inv-loop μ-loop
-loop-holds c = (c .first-bin .ensures, omega arith, (omega arith, refl))
-
-cast-loop : tie.Need-cast-loop Inv-loop μ-loop
-cast-loop c = omega arith
-
-add-starts : tie.Need-add-starts Inv-loop μ-loop
-add-starts c = omega arith
-
-mul-starts : tie.Need-mul-starts Inv-loop μ-loop
-mul-starts c = omega arith
-
-cast-starts : tie.Need-cast-starts Inv-loop μ-loop
-cast-starts c = omega arith
-
-mul-starts-2 : tie.Need-mul-starts-2 Inv-loop μ-loop
-mul-starts-2 c = omega arith
-
-array-write-starts : tie.Need-array-write-starts Inv-loop μ-loop
-array-write-starts c = omega arith
-
-add-j : tie.Need-add-j Inv-loop μ-loop
-add-j c = omega arith
-
-loop-less : tie.Need-loop-less Inv-loop μ-loop
-loop-less c = omega arith
 
 loop-again : tie.Need-loop-again Inv-loop μ-loop
 loop-again c =
@@ -65,16 +33,16 @@ bin-starts-spec =
     (tie.spec
     Inv-loop
     μ-loop
-    first-bin-requires
-    cast-first
-    loop-holds
-    cast-loop
-    add-starts
-    mul-starts
-    cast-starts
-    mul-starts-2
-    array-write-starts
-    add-j
-    loop-less
+    (λ c κs. omega arith)
+    (λ c. omega arith)
+    (λ c. search needs)
+    (λ c. omega arith)
+    (λ c. omega arith)
+    (λ c. omega arith)
+    (λ c. omega arith)
+    (λ c. omega arith)
+    (λ c. omega arith)
+    (λ c. omega arith)
+    (λ c. omega arith)
     loop-again
     returns)

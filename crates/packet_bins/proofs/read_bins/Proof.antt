@@ -1,11 +1,12 @@
 -- One law of loops that fill a list, at the bins.
 use Prim.Native.Nat.{ℕ, _-_}
-use mathlib.Core.Path.{_∙_, refl, ap}
+use mathlib.Core.Path.{_∙_, ap}
 use denote.Ref.{now}
 use native.Mathlib.Omega.{arith}
 use lib.ListN.{getD}
 use Rattle.octets.proofs.Fill.{Filled, fill-more, fill-done}
 use Rattle.packet_bins.specs.Bins.{binByte, binsOf}
+use borrow.Author.Needs.{needs}
 use Rattle.packet_bins.proofs.read_bins.Statement.{statement}
 use Rattle.packet_bins.proofs.read_bins.Tie as tie
 
@@ -14,24 +15,6 @@ Inv-loop bytes bins₀ j₀ bins j = Filled (λ j. getD bytes (binByte j) 0) bin
 
 abbrev μ-loop : tie.MeasureT-loop
 μ-loop bytes bins₀ j₀ bins j = 48 - j
-
-loop-holds : tie.Need-loop-holds Inv-loop μ-loop
-loop-holds c = (omega arith, refl)
-
-bin-byte-requires : tie.Need-bin-byte-requires Inv-loop μ-loop
-bin-byte-requires c κs = omega arith
-
-u8-at-requires : tie.Need-u8-at-requires Inv-loop μ-loop
-u8-at-requires c κs = omega arith
-
-array-write-bins : tie.Need-array-write-bins Inv-loop μ-loop
-array-write-bins c = omega arith
-
-add-j : tie.Need-add-j Inv-loop μ-loop
-add-j c = omega arith
-
-loop-less : tie.Need-loop-less Inv-loop μ-loop
-loop-less c = omega arith
 
 loop-again : tie.Need-loop-again Inv-loop μ-loop
 loop-again c =
@@ -53,11 +36,11 @@ read-bins-spec =
     (tie.spec
     Inv-loop
     μ-loop
-    loop-holds
-    bin-byte-requires
-    u8-at-requires
-    array-write-bins
-    add-j
-    loop-less
+    (λ c. search needs)
+    (λ c κs. omega arith)
+    (λ c κs. omega arith)
+    (λ c. omega arith)
+    (λ c. omega arith)
+    (λ c. omega arith)
     loop-again
     returns)

@@ -25,22 +25,13 @@ returns : tie.Need-returns
 unfolding readRefusal
 returns c = search rungs depth 10
 
-is-sum-word-requires : tie.Need-is-sum-word-requires
-is-sum-word-requires c κs = search needs
-
 returns-2 : tie.Need-returns-2
 unfolding readRefusal
 returns-2 c = let p = sym (c .before .is-sum-word .ensures) ∙ not-true _ (c .if2 .taken) in search (fail, rungs) depth 10
 
-header-refusal-requires : tie.Need-header-refusal-requires
-header-refusal-requires c κs = search needs
-
 returns-3 : tie.Need-returns-3
 unfolding readRefusal
 returns-3 c = let p = placed (c .before .before) in let h = c .before .header-refusal .ensures in search (pass, rungs) depth 10
-
-u8-at-requires : tie.Need-u8-at-requires
-u8-at-requires c κs = search needs
 
 returns-4 : tie.Need-returns-4
 unfolding readRefusal
@@ -50,17 +41,11 @@ returns-4 c =
     let h = headed e in
     rw (← c .before .u8-at .ensures) (search (pass, rungs) depth 10)
 
-packet-sum-requires : tie.Need-packet-sum-requires
-packet-sum-requires c κs = search needs
-
 mul-u16-at : tie.Need-mul-u16-at
 mul-u16-at c =
     let e = c .before .before .before .before .before in
     let r = sum-word-range (e .before .before .before .before .args .sum-word) (placed e) in
     omega (arith, r .1)
-
-u16-at-requires : tie.Need-u16-at-requires
-u16-at-requires c κs = search needs
 
 returns-5 : tie.Need-returns-5
 unfolding readRefusal
@@ -85,14 +70,14 @@ packet-refusal-spec =
     tie.close
     (tie.spec
     returns
-    is-sum-word-requires
+    (λ c κs. search needs)
     returns-2
-    header-refusal-requires
+    (λ c κs. search needs)
     returns-3
-    u8-at-requires
+    (λ c κs. search needs)
     returns-4
-    packet-sum-requires
+    (λ c κs. search needs)
     mul-u16-at
-    u16-at-requires
+    (λ c κs. search needs)
     returns-5
     returns-6)

@@ -13,18 +13,6 @@ use borrow.Author.Needs.{needs}
 use Rattle.packet_laws.proofs.copy_packet.Statement.{statement}
 use Rattle.packet_laws.proofs.copy_packet.Tie as tie
 
-read-packet-requires : tie.Need-read-packet-requires
-read-packet-requires c κs = search needs
-
-enum-known-answer : tie.Need-enum-known-answer
-enum-known-answer c = search needs
-
-enum-told : tie.Need-enum-told
-enum-told c = search needs
-
-refusal-number-requires : tie.Need-refusal-number-requires
-refusal-number-requires c κs = search needs
-
 returns : tie.Need-returns
 returns c =
     let a = c .before .before .before .before .before .before .args in
@@ -34,15 +22,6 @@ returns c =
     let r = c .refusal-number .ensures ∙ ap refusalIn (p .0) ∙ number-say _ (fieldsOf bs) in
     let e = copy-refused bs (a .sum-word) (now (a .out)) _ r (λ z. q .1 (sym r ∙ z)) in
     (say-refused _ _ tt e (λ z. q .1 (sym r ∙ z)), after-refused _ _ bs (now (a .out)) e (λ z. q .1 (sym r ∙ z)))
-
-carried-requires : tie.Need-carried-requires
-carried-requires c κs = search needs
-
-write-packet-requires : tie.Need-write-packet-requires
-write-packet-requires c κs = search needs
-
-same-length : tie.Need-same-length
-same-length c = search needs
 
 returns-2 : tie.Need-returns-2
 returns-2 c =
@@ -62,12 +41,12 @@ pub copy-packet-spec : {M : Type 1} → statement M
 copy-packet-spec =
     tie.close
     (tie.spec
-    read-packet-requires
-    enum-known-answer
-    enum-told
-    refusal-number-requires
+    (λ c κs. search needs)
+    (λ c. search needs)
+    (λ c. search needs)
+    (λ c κs. search needs)
     returns
-    carried-requires
-    write-packet-requires
-    same-length
+    (λ c κs. search needs)
+    (λ c κs. search needs)
+    (λ c. search needs)
     returns-2)

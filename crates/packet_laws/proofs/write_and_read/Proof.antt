@@ -13,30 +13,12 @@ use borrow.Author.Needs.{needs}
 use Rattle.packet_laws.proofs.write_and_read.Statement.{statement}
 use Rattle.packet_laws.proofs.write_and_read.Tie as tie
 
-write-packet-requires : tie.Need-write-packet-requires
-write-packet-requires c κs = search needs
-
-enum-known-written : tie.Need-enum-known-written
-enum-known-written c = search needs
-
-same-length : tie.Need-same-length
-same-length c = search needs
-
 returns : tie.Need-returns
 returns c =
     let a = c .before .before .before .before .before .before .before .before .before .args in
     let w = c .before .before .before .before .before .write-packet .ensures in
     let q = refusal-said _ _ tt (sym (ap writtenSaid (c .before .written .given .1)) ∙ w .0) in
     (say-refused _ _ (a .fields) (q .0) (λ z. q .1 (sym (q .0) ∙ z)), after-refused _ _ (a .arrays) noArrays (q .0) (λ z. q .1 (sym (q .0) ∙ z)), w .1)
-
-enum-told : tie.Need-enum-told
-enum-told c = search needs
-
-read-packet-requires : tie.Need-read-packet-requires
-read-packet-requires c κs = search needs
-
-same-length-2 : tie.Need-same-length-2
-same-length-2 c = search needs
 
 -- the bounds of the types
 typed : (s : tie.Start) → Typed (s .args .fields) (s .args .arrays)
@@ -72,11 +54,11 @@ pub write-and-read-spec : {M : Type 1} → statement M
 write-and-read-spec =
     tie.close
     (tie.spec
-    write-packet-requires
-    enum-known-written
-    same-length
+    (λ c κs. search needs)
+    (λ c. search needs)
+    (λ c. search needs)
     returns
-    enum-told
-    read-packet-requires
-    same-length-2
+    (λ c. search needs)
+    (λ c κs. search needs)
+    (λ c. search needs)
     returns-2)

@@ -1,11 +1,12 @@
 -- One law of loops that fill a list, at the swapped bins.
 use Prim.Native.Nat.{ℕ, _-_}
-use mathlib.Core.Path.{refl, ap}
+use mathlib.Core.Path.{ap}
 use native.Mathlib.Omega.{arith}
 use lib.ListN.{getD}
 use Rattle.octets.proofs.Fill.{Filled, fill-more, fill-done}
 use Rattle.packet_bins.specs.Bins.{binByte}
 use Rattle.packet_writer.specs.Write.{histogramOf}
+use borrow.Author.Needs.{needs}
 use Rattle.packet_writer.proofs.histogram_bytes.Statement.{statement}
 use Rattle.packet_writer.proofs.histogram_bytes.Tie as tie
 
@@ -14,24 +15,6 @@ Inv-loop bins bytes₀ k₀ bytes k = Filled (λ k. getD bins (binByte k - 56) 0
 
 abbrev μ-loop : tie.MeasureT-loop
 μ-loop bins bytes₀ k₀ bytes k = 48 - k
-
-loop-holds : tie.Need-loop-holds Inv-loop μ-loop
-loop-holds c = (omega arith, refl)
-
-partner-requires : tie.Need-partner-requires Inv-loop μ-loop
-partner-requires c κs = omega arith
-
-array-read-bytes : tie.Need-array-read-bytes Inv-loop μ-loop
-array-read-bytes c = omega arith
-
-array-write-bytes : tie.Need-array-write-bytes Inv-loop μ-loop
-array-write-bytes c = omega arith
-
-add-k : tie.Need-add-k Inv-loop μ-loop
-add-k c = omega arith
-
-loop-less : tie.Need-loop-less Inv-loop μ-loop
-loop-less c = omega arith
 
 loop-again : tie.Need-loop-again Inv-loop μ-loop
 loop-again c =
@@ -52,11 +35,11 @@ histogram-bytes-spec =
     (tie.spec
     Inv-loop
     μ-loop
-    loop-holds
-    partner-requires
-    array-read-bytes
-    array-write-bytes
-    add-k
-    loop-less
+    (λ c. search needs)
+    (λ c κs. omega arith)
+    (λ c. omega arith)
+    (λ c. omega arith)
+    (λ c. omega arith)
+    (λ c. omega arith)
     loop-again
     returns)

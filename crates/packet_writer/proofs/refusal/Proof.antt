@@ -9,9 +9,6 @@ use Rattle.packet_writer.specs.Write.{writeRefusal}
 use Rattle.packet_writer.proofs.refusal.Statement.{statement}
 use Rattle.packet_writer.proofs.refusal.Tie as tie
 
-is-sum-word-requires : tie.Need-is-sum-word-requires
-is-sum-word-requires c κs = search needs
-
 -- a word that passed its test
 placed : (c : tie.Else1) → isSumWord (c .before .before .before .before .args .sum-word) ≡ true
 placed c = sym (c .before .is-sum-word .ensures) ∙ not-false _ (c .if1 .left)
@@ -42,4 +39,4 @@ returns-6 c = let p = placed (c .before .before .before .before .before .before)
 
 pub refusal-spec : {M : Type 1} → statement M
 refusal-spec =
-    tie.close (tie.spec is-sum-word-requires returns returns-2 returns-3 returns-4 returns-5 returns-6)
+    tie.close (tie.spec (λ c κs. search needs) returns returns-2 returns-3 returns-4 returns-5 returns-6)

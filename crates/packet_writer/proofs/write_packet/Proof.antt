@@ -9,12 +9,6 @@ use borrow.Author.Needs.{needs}
 use Rattle.packet_writer.proofs.write_packet.Statement.{statement}
 use Rattle.packet_writer.proofs.write_packet.Tie as tie
 
-refusal-requires : tie.Need-refusal-requires
-refusal-requires c κs = search needs
-
-same-length : tie.Need-same-length
-same-length c = search needs
-
 returns : tie.Need-returns
 returns c =
     let a = c .before .before .before .before .before .args in
@@ -29,23 +23,8 @@ may c = writable _ _ _ _ (sym (c .before .refusal .ensures) ∙ c .if1 .left)
 write-unsummed-requires : tie.Need-write-unsummed-requires
 write-unsummed-requires c κs = let m = may (c .before .before .before .before) in (m .count, m .carries, m .room)
 
-packet-sum-requires : tie.Need-packet-sum-requires
-packet-sum-requires c κs = search needs
-
-word-bytes-requires : tie.Need-word-bytes-requires
-word-bytes-requires c κs = search needs
-
-slice-aggregate-write-into : tie.Need-slice-aggregate-write-into
-slice-aggregate-write-into c = search needs
-
 mul-write-into : tie.Need-mul-write-into
 mul-write-into c = let m = may (c .before .before .before .before .before .before .before .before .before .before .before) in omega (arith, m .to)
-
-write-into-requires : tie.Need-write-into-requires
-write-into-requires c κs = search needs
-
-same-length-2 : tie.Need-same-length-2
-same-length-2 c = search needs
 
 returns-2 : tie.Need-returns-2
 returns-2 c =
@@ -67,14 +46,14 @@ pub write-packet-spec : {M : Type 1} → statement M
 write-packet-spec =
     tie.close
     (tie.spec
-    refusal-requires
-    same-length
+    (λ c κs. search needs)
+    (λ c. search needs)
     returns
     write-unsummed-requires
-    packet-sum-requires
-    word-bytes-requires
-    slice-aggregate-write-into
+    (λ c κs. search needs)
+    (λ c κs. search needs)
+    (λ c. search needs)
     mul-write-into
-    write-into-requires
-    same-length-2
+    (λ c κs. search needs)
+    (λ c. search needs)
     returns-2)

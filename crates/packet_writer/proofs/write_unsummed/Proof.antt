@@ -8,60 +8,6 @@ use borrow.Author.Needs.{needs}
 use Rattle.packet_writer.proofs.write_unsummed.Statement.{statement}
 use Rattle.packet_writer.proofs.write_unsummed.Tie as tie
 
-head-bytes-requires : tie.Need-head-bytes-requires
-head-bytes-requires c κs = search needs
-
-status-bytes-requires : tie.Need-status-bytes-requires
-status-bytes-requires c κs = search needs
-
-histogram-bytes-requires : tie.Need-histogram-bytes-requires
-histogram-bytes-requires c κs = search needs
-
-word-bytes-requires : tie.Need-word-bytes-requires
-word-bytes-requires c κs = search needs
-
-slice-aggregate-write-into : tie.Need-slice-aggregate-write-into
-slice-aggregate-write-into c = search needs
-
-write-into-requires : tie.Need-write-into-requires
-write-into-requires c κs = search needs
-
-slice-aggregate-write-into-2 : tie.Need-slice-aggregate-write-into-2
-slice-aggregate-write-into-2 c = search needs
-
-write-into-requires-2 : tie.Need-write-into-requires-2
-write-into-requires-2 c κs = search needs
-
-slice-aggregate-write-into-3 : tie.Need-slice-aggregate-write-into-3
-slice-aggregate-write-into-3 c = search needs
-
-write-into-requires-3 : tie.Need-write-into-requires-3
-write-into-requires-3 c κs = search needs
-
-slice-aggregate-write-into-4 : tie.Need-slice-aggregate-write-into-4
-slice-aggregate-write-into-4 c = search needs
-
-write-into-requires-4 : tie.Need-write-into-requires-4
-write-into-requires-4 c κs = search needs
-
-slice-aggregate-write-into-5 : tie.Need-slice-aggregate-write-into-5
-slice-aggregate-write-into-5 c = search needs
-
-write-into-requires-5 : tie.Need-write-into-requires-5
-write-into-requires-5 c κs = search needs
-
-slice-aggregate-write-into-6 : tie.Need-slice-aggregate-write-into-6
-slice-aggregate-write-into-6 c = search needs
-
-write-into-requires-6 : tie.Need-write-into-requires-6
-write-into-requires-6 c κs = search needs
-
-write-into-requires-7 : tie.Need-write-into-requires-7
-write-into-requires-7 c κs = search needs
-
-same-length : tie.Need-same-length
-same-length c = search needs
-
 -- the arrays' lengths, by their types
 lengths : (s : tie.Start) → (length (s .args .t2) ≡ 16) × (length (s .args .t3) ≡ 14)
 lengths s = (search needs, search needs)
@@ -93,22 +39,22 @@ pub write-unsummed-spec : {M : Type 1} → statement M
 write-unsummed-spec =
     tie.close
     (tie.spec
-    head-bytes-requires
-    status-bytes-requires
-    histogram-bytes-requires
-    word-bytes-requires
-    slice-aggregate-write-into
-    write-into-requires
-    slice-aggregate-write-into-2
-    write-into-requires-2
-    slice-aggregate-write-into-3
-    write-into-requires-3
-    slice-aggregate-write-into-4
-    write-into-requires-4
-    slice-aggregate-write-into-5
-    write-into-requires-5
-    slice-aggregate-write-into-6
-    write-into-requires-6
-    write-into-requires-7
-    same-length
+    (λ c κs. search needs)
+    (λ c κs. search needs)
+    (λ c κs. search needs)
+    (λ c κs. search needs)
+    (λ c. search needs)
+    (λ c κs. search needs)
+    (λ c. search needs)
+    (λ c κs. search needs)
+    (λ c. search needs)
+    (λ c κs. search needs)
+    (λ c. search needs)
+    (λ c κs. search needs)
+    (λ c. search needs)
+    (λ c κs. search needs)
+    (λ c. search needs)
+    (λ c κs. search needs)
+    (λ c κs. search needs)
+    (λ c. search needs)
     returns)

@@ -8,23 +8,11 @@ use borrow.Author.Needs.{needs}
 use Rattle.pedr.proofs.read_record.Statement.{statement}
 use Rattle.pedr.proofs.read_record.Tie as tie
 
-record-refusal-requires : tie.Need-record-refusal-requires
-record-refusal-requires c κs = search needs
-
-no-arrays-requires : tie.Need-no-arrays-requires
-no-arrays-requires c κs = search needs
-
 returns : tie.Need-returns
 returns c =
     let s = now (c .before .before .before .before .args .bytes) in
     let e = c .before .before .record-refusal .ensures in
     (say-refused _ _ (fieldsOf s) e (c .before .if1 .taken), c .no-arrays .ensures ∙ after-refused _ _ (arraysOf s) noArrays e (c .before .if1 .taken))
-
-read-fields-requires : tie.Need-read-fields-requires
-read-fields-requires c κs = search needs
-
-read-arrays-requires : tie.Need-read-arrays-requires
-read-arrays-requires c κs = search needs
 
 returns-2 : tie.Need-returns-2
 returns-2 c =
@@ -36,9 +24,9 @@ pub read-record-spec : {M : Type 1} → statement M
 read-record-spec =
     tie.close
     (tie.spec
-    record-refusal-requires
-    no-arrays-requires
+    (λ c κs. search needs)
+    (λ c κs. search needs)
     returns
-    read-fields-requires
-    read-arrays-requires
+    (λ c κs. search needs)
+    (λ c κs. search needs)
     returns-2)

@@ -1,6 +1,6 @@
 -- One law of loops that fill a list, at the tests of each shot.
 use Prim.Native.Nat.{ℕ, suc, _-_}
-use mathlib.Core.Path.{refl, ap, _∙_}
+use mathlib.Core.Path.{ap, _∙_}
 use mathlib.Core.List.{List}
 use denote.Ref.{now}
 use native.Mathlib.Omega.{arith}
@@ -22,27 +22,6 @@ Inv-loop bytes failures₀ k₀ failures k = Filled (failures-at bytes) failures
 abbrev μ-loop : tie.MeasureT-loop
 μ-loop bytes failures₀ k₀ failures k = 20 - k
 
-loop-holds : tie.Need-loop-holds Inv-loop μ-loop
-loop-holds c = (omega arith, refl)
-
-add-read-failures : tie.Need-add-read-failures Inv-loop μ-loop
-add-read-failures c = omega arith
-
-read-failures-requires : tie.Need-read-failures-requires Inv-loop μ-loop
-read-failures-requires c κs = search needs
-
-mul-failures : tie.Need-mul-failures Inv-loop μ-loop
-mul-failures c = omega arith
-
-array-set-from-failures : tie.Need-array-set-from-failures Inv-loop μ-loop
-array-set-from-failures c = omega arith
-
-add-k : tie.Need-add-k Inv-loop μ-loop
-add-k c = omega arith
-
-loop-less : tie.Need-loop-less Inv-loop μ-loop
-loop-less c = omega arith
-
 loop-again : tie.Need-loop-again Inv-loop μ-loop
 loop-again c =
     let l = c .before .before .loop in
@@ -62,12 +41,12 @@ read-all-failures-spec =
     (tie.spec
     Inv-loop
     μ-loop
-    loop-holds
-    add-read-failures
-    read-failures-requires
-    mul-failures
-    array-set-from-failures
-    add-k
-    loop-less
+    (λ c. search needs)
+    (λ c. omega arith)
+    (λ c κs. search needs)
+    (λ c. omega arith)
+    (λ c. omega arith)
+    (λ c. omega arith)
+    (λ c. omega arith)
     loop-again
     returns)

@@ -1,6 +1,6 @@
 -- One law of loops that fill a list, at the encoder bits of each shot.
 use Prim.Native.Nat.{ℕ, _+_, _-_}
-use mathlib.Core.Path.{refl, sym, ap, _∙_}
+use mathlib.Core.Path.{sym, ap, _∙_}
 use mathlib.Core.List.{List}
 use denote.Ref.{now}
 use native.Mathlib.Omega.{arith}
@@ -25,30 +25,6 @@ Inv-loop bytes encoders₀ k₀ encoders k = Filled (encoder-at bytes) encoders�
 abbrev μ-loop : tie.MeasureT-loop
 μ-loop bytes encoders₀ k₀ encoders k = 20 - k
 
-loop-holds : tie.Need-loop-holds Inv-loop μ-loop
-loop-holds c = (omega arith, refl)
-
-add-u8-at : tie.Need-add-u8-at Inv-loop μ-loop
-add-u8-at c = omega arith
-
-u8-at-requires : tie.Need-u8-at-requires Inv-loop μ-loop
-u8-at-requires c κs = search needs
-
-encoder-of-requires : tie.Need-encoder-of-requires Inv-loop μ-loop
-encoder-of-requires c κs = search needs
-
-mul-encoders : tie.Need-mul-encoders Inv-loop μ-loop
-mul-encoders c = omega arith
-
-array-set-from-encoders : tie.Need-array-set-from-encoders Inv-loop μ-loop
-array-set-from-encoders c = omega arith
-
-add-k : tie.Need-add-k Inv-loop μ-loop
-add-k c = omega arith
-
-loop-less : tie.Need-loop-less Inv-loop μ-loop
-loop-less c = omega arith
-
 loop-again : tie.Need-loop-again Inv-loop μ-loop
 loop-again c =
     let l = c .before .before .before .loop in
@@ -68,13 +44,13 @@ read-encoders-spec =
     (tie.spec
     Inv-loop
     μ-loop
-    loop-holds
-    add-u8-at
-    u8-at-requires
-    encoder-of-requires
-    mul-encoders
-    array-set-from-encoders
-    add-k
-    loop-less
+    (λ c. search needs)
+    (λ c. omega arith)
+    (λ c κs. search needs)
+    (λ c κs. search needs)
+    (λ c. omega arith)
+    (λ c. omega arith)
+    (λ c. omega arith)
+    (λ c. omega arith)
     loop-again
     returns)

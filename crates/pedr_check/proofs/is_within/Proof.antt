@@ -23,15 +23,6 @@ module _ (a : tie.Start) where
   near-is : toZ w64 (ofZ w64 (toZ w32 (ofZ w32 (a .args .x)))) ≡ a .args .x
   near-is = simp (toZ-ofZ w32 _ (a .fits .x), exact w64 tt (of-width w32 _ (a .fits .x)))
 
-cast-far : tie.Need-cast-far
-cast-far c = search needs
-
-cast-near : tie.Need-cast-near
-cast-near c = sfits-widen tt (reread (c .fits .x))
-
-sub-if1 : tie.Need-sub-if1
-sub-if1 c = simp (far-is c) (in-width w64 tt (lowest c))
-
 returns : tie.Need-returns
 returns c =
     let a = c .before in
@@ -43,4 +34,4 @@ returns-2 c =
     c .if1 .left ∙ sym (abs-below (a .args .x) (a .args .most) (simp (near-is a, far-is a, exact w64 tt (lowest a)) at (c .if1 .left)))
 
 pub is-within-spec : {M : Type 1} → statement M
-is-within-spec = tie.close (tie.spec cast-far cast-near sub-if1 returns returns-2)
+is-within-spec = tie.close (tie.spec (λ c. search needs) (λ c. sfits-widen tt (reread (c .fits .x))) (λ c. simp (far-is c) (in-width w64 tt (lowest c))) returns returns-2)

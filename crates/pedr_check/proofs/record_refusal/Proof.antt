@@ -66,29 +66,11 @@ returns : tie.Need-returns
 unfolding recordRefusal
 returns c = search rungs depth 10
 
-u24-at-requires : tie.Need-u24-at-requires
-u24-at-requires c κs = search needs
-
-good-count-requires : tie.Need-good-count-requires
-good-count-requires c κs = search needs
-
-u8-at-requires : tie.Need-u8-at-requires
-u8-at-requires c κs = search needs
-
-cast-if2 : tie.Need-cast-if2
-cast-if2 c = search needs
-
 returns-2 : tie.Need-returns-2
 unfolding recordRefusal
 returns-2 c =
     let n = miscounted c in
     search rungs depth 10
-
-micros-requires : tie.Need-micros-requires
-micros-requires c κs = search needs
-
-is-within-requires : tie.Need-is-within-requires
-is-within-requires c κs = search needs
 
 returns-3 : tie.Need-returns-3
 unfolding recordRefusal
@@ -97,12 +79,6 @@ returns-3 c =
     let m = c .before .before .micros in
     let n = beyond _ _ _ 999999 (c .before .is-within .ensures) (held w32 (m .ok) (m .ensures)) (not-true _ (c .if3 .taken)) in
     search rungs depth 10
-
-latitude-requires : tie.Need-latitude-requires
-latitude-requires c κs = search needs
-
-is-within-requires-2 : tie.Need-is-within-requires-2
-is-within-requires-2 c κs = search needs
 
 returns-4 : tie.Need-returns-4
 unfolding recordRefusal
@@ -113,9 +89,6 @@ returns-4 c =
     let l = c .before .before .latitude in
     let n = beyond _ _ _ 90000000 (c .before .is-within2 .ensures) (held w32 (l .ok) (l .ensures)) (not-true _ (c .if4 .taken)) in
     search rungs depth 10
-
-u16-at-requires : tie.Need-u16-at-requires
-u16-at-requires c κs = search needs
 
 returns-5 : tie.Need-returns-5
 returns-5 c = by-frame-index (c .before .before) 15 (rw (← c .before .u16-at .ensures) (search rungs depth 3))
@@ -131,18 +104,18 @@ record-refusal-spec =
     tie.close
     (tie.spec
     returns
-    u24-at-requires
-    good-count-requires
-    u8-at-requires
-    cast-if2
+    (λ c κs. search needs)
+    (λ c κs. search needs)
+    (λ c κs. search needs)
+    (λ c. search needs)
     returns-2
-    micros-requires
-    is-within-requires
+    (λ c κs. search needs)
+    (λ c κs. search needs)
     returns-3
-    latitude-requires
-    is-within-requires-2
+    (λ c κs. search needs)
+    (λ c κs. search needs)
     returns-4
-    u16-at-requires
+    (λ c κs. search needs)
     returns-5
     returns-6
     returns-7)

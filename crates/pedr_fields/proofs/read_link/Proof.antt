@@ -6,15 +6,6 @@ use borrow.Author.Needs.{needs}
 use Rattle.pedr_fields.proofs.read_link.Statement.{statement}
 use Rattle.pedr_fields.proofs.read_link.Tie as tie
 
-i32-at-requires : tie.Need-i32-at-requires
-i32-at-requires c κs = search needs
-
-i16-at-requires : tie.Need-i16-at-requires
-i16-at-requires c κs = search needs
-
-u16-at-requires : tie.Need-u16-at-requires
-u16-at-requires c κs = search needs
-
 returns : tie.Need-returns
 unfolding linkOf
 returns c =
@@ -25,4 +16,4 @@ returns c =
     }
 
 pub read-link-spec : {M : Type 1} → statement M
-read-link-spec = tie.close (tie.spec i32-at-requires i16-at-requires u16-at-requires returns)
+read-link-spec = tie.close (tie.spec (λ c κs. search needs) (λ c κs. search needs) (λ c κs. search needs) returns)

@@ -6,15 +6,6 @@ use borrow.Author.Needs.{needs}
 use Rattle.pedr_fields.proofs.read_pointing.Statement.{statement}
 use Rattle.pedr_fields.proofs.read_pointing.Tie as tie
 
-i32-at-requires : tie.Need-i32-at-requires
-i32-at-requires c κs = search needs
-
-i32-at-requires-2 : tie.Need-i32-at-requires-2
-i32-at-requires-2 c κs = search needs
-
-i32-at-requires-3 : tie.Need-i32-at-requires-3
-i32-at-requires-3 c κs = search needs
-
 returns : tie.Need-returns
 unfolding pointingOf
 returns c =
@@ -26,4 +17,4 @@ returns c =
 
 pub read-pointing-spec : {M : Type 1} → statement M
 read-pointing-spec =
-    tie.close (tie.spec i32-at-requires i32-at-requires-2 i32-at-requires-3 returns)
+    tie.close (tie.spec (λ c κs. search needs) (λ c κs. search needs) (λ c κs. search needs) returns)

@@ -6,24 +6,6 @@ use borrow.Author.Needs.{needs}
 use Rattle.pedr_fields.proofs.read_position.Statement.{statement}
 use Rattle.pedr_fields.proofs.read_position.Tie as tie
 
-u32-at-requires : tie.Need-u32-at-requires
-u32-at-requires c κs = search needs
-
-i32-at-requires : tie.Need-i32-at-requires
-i32-at-requires c κs = search needs
-
-i32-at-requires-2 : tie.Need-i32-at-requires-2
-i32-at-requires-2 c κs = search needs
-
-u32-at-requires-2 : tie.Need-u32-at-requires-2
-u32-at-requires-2 c κs = search needs
-
-i32-at-requires-3 : tie.Need-i32-at-requires-3
-i32-at-requires-3 c κs = search needs
-
-i32-at-requires-4 : tie.Need-i32-at-requires-4
-i32-at-requires-4 c κs = search needs
-
 returns : tie.Need-returns
 unfolding positionOf
 returns c =
@@ -40,10 +22,10 @@ pub read-position-spec : {M : Type 1} → statement M
 read-position-spec =
     tie.close
     (tie.spec
-    u32-at-requires
-    i32-at-requires
-    i32-at-requires-2
-    u32-at-requires-2
-    i32-at-requires-3
-    i32-at-requires-4
+    (λ c κs. search needs)
+    (λ c κs. search needs)
+    (λ c κs. search needs)
+    (λ c κs. search needs)
+    (λ c κs. search needs)
+    (λ c κs. search needs)
     returns)

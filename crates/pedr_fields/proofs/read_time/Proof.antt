@@ -6,12 +6,6 @@ use borrow.Author.Needs.{needs}
 use Rattle.pedr_fields.proofs.read_time.Statement.{statement}
 use Rattle.pedr_fields.proofs.read_time.Tie as tie
 
-i32-at-requires : tie.Need-i32-at-requires
-i32-at-requires c κs = search needs
-
-i32-at-requires-2 : tie.Need-i32-at-requires-2
-i32-at-requires-2 c κs = search needs
-
 returns : tie.Need-returns
 unfolding timeOf
 returns c =
@@ -21,4 +15,4 @@ returns c =
     }
 
 pub read-time-spec : {M : Type 1} → statement M
-read-time-spec = tie.close (tie.spec i32-at-requires i32-at-requires-2 returns)
+read-time-spec = tie.close (tie.spec (λ c κs. search needs) (λ c κs. search needs) returns)

@@ -25,12 +25,6 @@ whole-fits c = search needs
 micros-fits : (c : tie.Start) → SFits w32 (c .args .time .micros)
 micros-fits c = search needs
 
-cast-whole : tie.Need-cast-whole
-cast-whole c = sfits-widen tt (reread (whole-fits (c .before .before)))
-
-cast-micros : tie.Need-cast-micros
-cast-micros c = sfits-widen tt (reread (micros-fits (c .before .before .before .before)))
-
 mul-result : tie.Need-mul-result
 mul-result c = simp (kept _ (whole-fits (c .before .before .before .before))) (in-width w64 tt (product _ (whole-fits (c .before .before .before .before))))
 
@@ -47,4 +41,4 @@ returns c =
     simp (kept _ w, kept _ m, exact w64 tt (product _ w), exact w64 tt (total _ _ w m))
 
 pub time-in-micros-spec : {M : Type 1} → statement M
-time-in-micros-spec = tie.close (tie.spec cast-whole cast-micros mul-result add-result returns)
+time-in-micros-spec = tie.close (tie.spec (λ c. sfits-widen tt (reread (whole-fits (c .before .before)))) (λ c. sfits-widen tt (reread (micros-fits (c .before .before .before .before)))) mul-result add-result returns)

@@ -10,15 +10,9 @@ returns c = simp (lt-leb 1 _ (c .if1 .taken))
 returns-2 : tie.Need-returns-2
 returns-2 c = simp (le-leb 1 _ (c .before .if1 .left), lt-leb _ 20 (c .if2 .taken))
 
-add-has-failed : tie.Need-add-has-failed
-add-has-failed c = search needs
-
-has-failed-requires : tie.Need-has-failed-requires
-has-failed-requires c κs = search needs
-
 returns-3 : tie.Need-returns-3
 returns-3 c = simp (le-leb 1 _ (c .before .before .if1 .left), le-leb _ 20 (c .before .if2 .left), c .has-failed .ensures)
 
 pub has-failed-at-spec : {M : Type 1} → statement M
 has-failed-at-spec =
-    tie.close (tie.spec returns returns-2 add-has-failed has-failed-requires returns-3)
+    tie.close (tie.spec returns returns-2 (λ c. search needs) (λ c κs. search needs) returns-3)

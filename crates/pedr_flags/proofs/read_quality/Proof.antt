@@ -8,15 +8,6 @@ use borrow.Author.Needs.{needs}
 use Rattle.pedr_flags.proofs.read_quality.Statement.{statement}
 use Rattle.pedr_flags.proofs.read_quality.Tie as tie
 
-u24-at-requires : tie.Need-u24-at-requires
-u24-at-requires c κs = search needs
-
-cast-t6 : tie.Need-cast-t6
-cast-t6 c = fits-mask (c .u24-at .result / 1048576) 4 tt
-
-u8-at-requires : tie.Need-u8-at-requires
-u8-at-requires c κs = search needs
-
 returns : tie.Need-returns
 unfolding qualityOf
 returns c =
@@ -28,4 +19,4 @@ returns c =
     }
 
 pub read-quality-spec : {M : Type 1} → statement M
-read-quality-spec = tie.close (tie.spec u24-at-requires cast-t6 u8-at-requires returns)
+read-quality-spec = tie.close (tie.spec (λ c κs. search needs) (λ c. fits-mask (c .u24-at .result / 1048576) 4 tt) (λ c κs. search needs) returns)

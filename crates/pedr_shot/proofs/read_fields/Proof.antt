@@ -12,99 +12,6 @@ use borrow.Author.Needs.{needs}
 use Rattle.pedr_shot.proofs.read_fields.Statement.{statement}
 use Rattle.pedr_shot.proofs.read_fields.Tie as tie
 
-sub-k : tie.Need-sub-k
-sub-k c = search needs
-
-mul-u32-at : tie.Need-mul-u32-at
-mul-u32-at c = search needs
-
-add-u32-at : tie.Need-add-u32-at
-add-u32-at c = search needs
-
-u32-at-requires : tie.Need-u32-at-requires
-u32-at-requires c κs = search needs
-
-mul-u16-at : tie.Need-mul-u16-at
-mul-u16-at c = search needs
-
-add-u16-at : tie.Need-add-u16-at
-add-u16-at c = search needs
-
-u16-at-requires : tie.Need-u16-at-requires
-u16-at-requires c κs = search needs
-
-mul-u16-at-2 : tie.Need-mul-u16-at-2
-mul-u16-at-2 c = search needs
-
-add-u16-at-2 : tie.Need-add-u16-at-2
-add-u16-at-2 c = search needs
-
-u16-at-requires-2 : tie.Need-u16-at-requires-2
-u16-at-requires-2 c κs = search needs
-
-add-u8-at : tie.Need-add-u8-at
-add-u8-at c = search needs
-
-u8-at-requires : tie.Need-u8-at-requires
-u8-at-requires c κs = search needs
-
-mul-u16-at-3 : tie.Need-mul-u16-at-3
-mul-u16-at-3 c = search needs
-
-add-u16-at-3 : tie.Need-add-u16-at-3
-add-u16-at-3 c = search needs
-
-u16-at-requires-3 : tie.Need-u16-at-requires-3
-u16-at-requires-3 c κs = search needs
-
-mul-u16-at-4 : tie.Need-mul-u16-at-4
-mul-u16-at-4 c = search needs
-
-add-u16-at-4 : tie.Need-add-u16-at-4
-add-u16-at-4 c = search needs
-
-u16-at-requires-4 : tie.Need-u16-at-requires-4
-u16-at-requires-4 c κs = search needs
-
-mul-u16-at-5 : tie.Need-mul-u16-at-5
-mul-u16-at-5 c = search needs
-
-add-u16-at-5 : tie.Need-add-u16-at-5
-add-u16-at-5 c = search needs
-
-u16-at-requires-5 : tie.Need-u16-at-requires-5
-u16-at-requires-5 c κs = search needs
-
-mul-u16-at-6 : tie.Need-mul-u16-at-6
-mul-u16-at-6 c = search needs
-
-add-u16-at-6 : tie.Need-add-u16-at-6
-add-u16-at-6 c = search needs
-
-u16-at-requires-6 : tie.Need-u16-at-requires-6
-u16-at-requires-6 c κs = search needs
-
-class-of-requires : tie.Need-class-of-requires
-class-of-requires c κs = search needs
-
-add-u8-at-2 : tie.Need-add-u8-at-2
-add-u8-at-2 c = search needs
-
-u8-at-requires-2 : tie.Need-u8-at-requires-2
-u8-at-requires-2 c κs = search needs
-
-encoder-of-requires : tie.Need-encoder-of-requires
-encoder-of-requires c κs = search needs
-
-u24-at-requires : tie.Need-u24-at-requires
-u24-at-requires c κs = search needs
-
-is-good-requires : tie.Need-is-good-requires
-is-good-requires c κs = search needs
-
-read-failures-requires : tie.Need-read-failures-requires
-read-failures-requires c κs = search needs
-
 returns : tie.Need-returns
 unfolding shotOf
 returns c =
@@ -129,35 +36,35 @@ pub read-fields-spec : {M : Type 1} → statement M
 read-fields-spec =
     tie.close
     (tie.spec
-    sub-k
-    mul-u32-at
-    add-u32-at
-    u32-at-requires
-    mul-u16-at
-    add-u16-at
-    u16-at-requires
-    mul-u16-at-2
-    add-u16-at-2
-    u16-at-requires-2
-    add-u8-at
-    u8-at-requires
-    mul-u16-at-3
-    add-u16-at-3
-    u16-at-requires-3
-    mul-u16-at-4
-    add-u16-at-4
-    u16-at-requires-4
-    mul-u16-at-5
-    add-u16-at-5
-    u16-at-requires-5
-    mul-u16-at-6
-    add-u16-at-6
-    u16-at-requires-6
-    class-of-requires
-    add-u8-at-2
-    u8-at-requires-2
-    encoder-of-requires
-    u24-at-requires
-    is-good-requires
-    read-failures-requires
+    (λ c. search needs)
+    (λ c. search needs)
+    (λ c. search needs)
+    (λ c κs. search needs)
+    (λ c. search needs)
+    (λ c. search needs)
+    (λ c κs. search needs)
+    (λ c. search needs)
+    (λ c. search needs)
+    (λ c κs. search needs)
+    (λ c. search needs)
+    (λ c κs. search needs)
+    (λ c. search needs)
+    (λ c. search needs)
+    (λ c κs. search needs)
+    (λ c. search needs)
+    (λ c. search needs)
+    (λ c κs. search needs)
+    (λ c. search needs)
+    (λ c. search needs)
+    (λ c κs. search needs)
+    (λ c. search needs)
+    (λ c. search needs)
+    (λ c κs. search needs)
+    (λ c κs. search needs)
+    (λ c. search needs)
+    (λ c κs. search needs)
+    (λ c κs. search needs)
+    (λ c κs. search needs)
+    (λ c κs. search needs)
+    (λ c κs. search needs)
     returns)

@@ -16,9 +16,6 @@ there-is : (s : List ℕ) (k : ℕ) → shotRefusal s k ≡ 0 → (1 ≤ k) × (
 unfolding shotRefusal
 there-is s k e = within-true 1 20 k (passed (within 1 20 k) 15 0 (then-zero (recordRefusal s) _ e .1) .0)
 
-refusal-requires : tie.Need-refusal-requires
-refusal-requires c κs = search needs
-
 returns : tie.Need-returns
 returns c = say-refused _ _ (shotOf (now (c .before .before .before .args .bytes)) (c .before .before .before .args .shot)) (c .before .refusal .ensures) (c .if1 .taken)
 
@@ -31,4 +28,4 @@ returns-2 c =
     say-answered _ (shotOf (now (a .bytes)) (a .shot)) _ (sym (c .before .before .refusal .ensures) ∙ c .before .if1 .left) (c .read-fields .ensures)
 
 pub read-shot-spec : {M : Type 1} → statement M
-read-shot-spec = tie.close (tie.spec refusal-requires returns read-fields-requires returns-2)
+read-shot-spec = tie.close (tie.spec (λ c κs. search needs) returns read-fields-requires returns-2)

@@ -6,9 +6,6 @@ use borrow.Author.Needs.{needs}
 use Rattle.pedr_shot.proofs.refusal.Statement.{statement}
 use Rattle.pedr_shot.proofs.refusal.Tie as tie
 
-record-refusal-requires : tie.Need-record-refusal-requires
-record-refusal-requires c κs = search needs
-
 returns : tie.Need-returns
 unfolding shotRefusal
 returns c = let h = c .before .record-refusal .ensures in search rungs depth 10
@@ -26,4 +23,4 @@ unfolding shotRefusal
 returns-4 c = let z = sym (c .before .before .before .record-refusal .ensures) ∙ c .before .before .if1 .left in search rungs depth 10
 
 pub refusal-spec : {M : Type 1} → statement M
-refusal-spec = tie.close (tie.spec record-refusal-requires returns returns-2 returns-3 returns-4)
+refusal-spec = tie.close (tie.spec (λ c κs. search needs) returns returns-2 returns-3 returns-4)

@@ -22,12 +22,6 @@ module _ (a : tie.Start) where
   x-is : toZ w64 (ofZ w64 (a .args .x)) ≡ a .args .x
   x-is = toZ-ofZ w64 _ (a .fits .x)
 
-cast-far : tie.Need-cast-far
-cast-far c = search needs
-
-sub-if1 : tie.Need-sub-if1
-sub-if1 c = simp (far-is c) (in-width w64 tt (lowest c))
-
 returns : tie.Need-returns
 returns c =
     let a = c .before in
@@ -39,4 +33,4 @@ returns-2 c =
     c .if1 .left ∙ sym (abs-below (a .args .x) (a .args .most) (simp (x-is a, far-is a, exact w64 tt (lowest a)) at (c .if1 .left)))
 
 pub is-within-spec : {M : Type 1} → statement M
-is-within-spec = tie.close (tie.spec cast-far sub-if1 returns returns-2)
+is-within-spec = tie.close (tie.spec (λ c. search needs) (λ c. simp (far-is c) (in-width w64 tt (lowest c))) returns returns-2)

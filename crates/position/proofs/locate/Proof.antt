@@ -73,41 +73,20 @@ module _ (k : tie.After-struct-known) where
   tolerance-is : toZ w64 (a .args .tolerance) ≡ pos (a .args .tolerance)
   tolerance-is = widened w64 tt (a .fits .tolerance)
 
-cast-counted : tie.Need-cast-counted
-cast-counted c = search needs
-
-cast-counted-2 : tie.Need-cast-counted-2
-cast-counted-2 c = search needs
-
 sub-counted : tie.Need-sub-counted
 sub-counted c = simp (widened w64 tt (c .before .fits .count), widened w64 tt (c .struct-known .given .0)) (in-width w64 tt (counted-range c))
-
-cast-elapsed : tie.Need-cast-elapsed
-cast-elapsed c = search needs
-
-cast-elapsed-2 : tie.Need-cast-elapsed-2
-cast-elapsed-2 c = search needs
 
 sub-elapsed : tie.Need-sub-elapsed
 sub-elapsed c =
     simp (widened w64 tt (c .before .before .fits .time), widened w64 tt (c .before .struct-known .given .1 .0)) (in-width w64 tt (elapsed-range (c .before)))
 
-cast-rounds : tie.Need-cast-rounds
-cast-rounds c = search needs
-
 add-rounds : tie.Need-add-rounds
 add-rounds c = simp (elapsed-is (c .before), tolerance-is (c .before)) (in-width w64 tt (late-range (c .before)))
-
-mul-rounds : tie.Need-mul-rounds
-mul-rounds c = simp (counted-is (c .before)) (in-width w64 tt (due-range (c .before)))
 
 sub-rounds : tie.Need-sub-rounds
 sub-rounds c =
     let k = c .before in
     simp (elapsed-is k, tolerance-is k, counted-is k, exact w64 tt (late-range k), exact w64 tt (due-range k)) (in-width w64 tt (rest-range k))
-
-rounds-requires : tie.Need-rounds-requires
-rounds-requires c κs = search needs
 
 -- what `rounds` gave
 rounds-is : (c : tie.After-rounds) → toZ w64 (ofZ w64 (c .rounds .result)) ≡ shrZ (rest (c .before .before)) 229376
@@ -115,9 +94,6 @@ rounds-is c =
     let k = c .before .before in
     held w64 (c .rounds .ok) (c .rounds .ensures)
     ∙ simp (elapsed-is k, tolerance-is k, counted-is k, exact w64 tt (late-range k), exact w64 tt (due-range k), exact w64 tt (rest-range k))
-
-mul-p : tie.Need-mul-p
-mul-p c = simp (rounds-is c) (in-width w64 tt (rounds-range (c .before .before)))
 
 add-p : tie.Need-add-p
 add-p c =
@@ -134,9 +110,6 @@ sub-is-within c =
     let k = c .before .before in
     simp (rounds-is c, counted-is k, elapsed-is k, exact w64 tt (rounds-range k), exact w64 tt (p-range k), exact w64 tt (p-due-range k))
     (in-width w64 tt (apart-range k))
-
-is-within-requires : tie.Need-is-within-requires
-is-within-requires c κs = search needs
 
 -- what `is_within` gave
 near-is :
@@ -173,21 +146,21 @@ pub locate-spec : {M : Type 1} → statement M
 locate-spec =
     tie.close
     (tie.spec
-    cast-counted
-    cast-counted-2
+    (λ c. search needs)
+    (λ c. search needs)
     sub-counted
-    cast-elapsed
-    cast-elapsed-2
+    (λ c. search needs)
+    (λ c. search needs)
     sub-elapsed
-    cast-rounds
+    (λ c. search needs)
     add-rounds
-    mul-rounds
+    (λ c. simp (counted-is (c .before)) (in-width w64 tt (due-range (c .before))))
     sub-rounds
-    rounds-requires
-    mul-p
+    (λ c κs. search needs)
+    (λ c. simp (rounds-is c) (in-width w64 tt (rounds-range (c .before .before))))
     add-p
     mul-is-within
     sub-is-within
-    is-within-requires
+    (λ c κs. search needs)
     returns
     returns-2)

@@ -18,12 +18,6 @@ sub-result c = not-fits w64 _ (reread (c .before .fits .x))
 div-result : tie.Need-div-result
 div-result c = (lit< tt, quot-fits w64 229376 _ (reread (sub-result c)))
 
-sub-result-2 : tie.Need-sub-result-2
-sub-result-2 c = not-fits w64 _ (reread (div-result c .1))
-
-div-result-2 : tie.Need-div-result-2
-div-result-2 c = (lit< tt, quot-fits w64 229376 _ (reread (c .before .fits .x)))
-
 returns : tie.Need-returns
 returns c =
     let x = c .before .args .x in
@@ -43,4 +37,4 @@ returns-2 c =
     simp (toZ-ofZ w64) (floor-pos 229376 x not-below)
 
 pub rounds-spec : {M : Type 1} → statement M
-rounds-spec = tie.close (tie.spec sub-result div-result sub-result-2 div-result-2 returns returns-2)
+rounds-spec = tie.close (tie.spec sub-result div-result (λ c. not-fits w64 _ (reread (div-result c .1))) (λ c. (lit< tt, quot-fits w64 229376 _ (reread (c .before .fits .x)))) returns returns-2)

@@ -1,5 +1,4 @@
 -- What each of a read's answers makes of the chunk.
-use Prim.Native.Nat.{_+_, _≤_}
 use mathlib.Core.Path.{sym, ap, subst, _∙_}
 use native.Mathlib.Omega.{arith}
 use borrow.Author.Needs.{needs}
@@ -8,15 +7,6 @@ use Rattle.program_input.specs.Chunk.{ReadsWithin, afterRead}
 use Rattle.program_input.proofs.Reading.{bytes-more, bytes-full}
 use Rattle.program_input.proofs.after_read.Statement.{statement}
 use Rattle.program_input.proofs.after_read.Tie as tie
-
-enum-told : tie.Need-enum-told
-enum-told c = search needs
-
-enum-told-2 : tie.Need-enum-told-2
-enum-told-2 c = search needs
-
-enum-known-read : tie.Need-enum-known-read
-enum-known-read c = search needs
 
 add-count : tie.Need-add-count
 add-count c =
@@ -52,9 +42,9 @@ pub after-read-spec : {M : Type 1} → statement M
 after-read-spec =
     tie.close
     (tie.spec
-    enum-told
-    enum-told-2
-    enum-known-read
+    (λ c. search needs)
+    (λ c. search needs)
+    (λ c. search needs)
     add-count
     sub-room-left
     returns

@@ -14,14 +14,8 @@ Inv-loop fd buf₀ before₀ last₀ buf before last = ReadsWithin before last (
 abbrev μ-loop : tie.MeasureT-loop
 μ-loop fd buf₀ before₀ last₀ buf before last = readsLeft before last (length buf₀)
 
-loop-holds : tie.Need-loop-holds Inv-loop μ-loop
-loop-holds c = search needs
-
 after-read-requires : tie.Need-after-read-requires Inv-loop μ-loop
 after-read-requires c κs = subst (ReadsWithin (c .loop .before) (c .loop .last)) (sym (c .loop .inv .1)) (c .loop .inv .0)
-
-enum-known-step : tie.Need-enum-known-step Inv-loop μ-loop
-enum-known-step c = search needs
 
 sub-read-once : tie.Need-sub-read-once Inv-loop μ-loop
 sub-read-once c =
@@ -36,12 +30,6 @@ part-read-once-start c =
     let l = c .before .before .before .before .loop in
     let m = step-more (l .last) (l .before) _ _ (sym (c .before .step .given .1) ∙ a .ensures) in
     search needs
-
-part-read-once-end : tie.Need-part-read-once-end Inv-loop μ-loop
-part-read-once-end c = search needs
-
-read-once-requires : tie.Need-read-once-requires Inv-loop μ-loop
-read-once-requires c κs = search needs
 
 loop-less : tie.Need-loop-less Inv-loop μ-loop
 loop-less c =
@@ -62,12 +50,6 @@ loop-again c =
     let m = step-more (l .last) (l .before) _ _ e in
     (next-fits (r .result) _ _ _ (r .ensures) (m .0) (omega (arith, l .inv .1, r .kept .1 .0)), search needs)
 
-enum-known-step-2 : tie.Need-enum-known-step-2 Inv-loop μ-loop
-enum-known-step-2 c = search needs
-
-same-length : tie.Need-same-length Inv-loop μ-loop
-same-length c = search needs
-
 returns : tie.Need-returns Inv-loop μ-loop
 returns c =
     let a = c .before .before .before .after-read in
@@ -81,15 +63,15 @@ fill-spec =
     (tie.spec
     Inv-loop
     μ-loop
-    loop-holds
+    (λ c. search needs)
     after-read-requires
-    enum-known-step
+    (λ c. search needs)
     sub-read-once
     part-read-once-start
-    part-read-once-end
-    read-once-requires
+    (λ c. search needs)
+    (λ c κs. search needs)
     loop-less
     loop-again
-    enum-known-step-2
-    same-length
+    (λ c. search needs)
+    (λ c. search needs)
     returns)

@@ -13,9 +13,6 @@ returns c =
     let f : SFits w64 (c .before .before .args .got) = c .before .before .fits .got in
     (read-failed (c .before .before .args .got) _ (simp (toZ-ofZ w64) at (c .if1 .taken)), tt)
 
-count-requires : tie.Need-count-requires
-count-requires c κs = search needs
-
 returns-2 : tie.Need-returns-2
 returns-2 c =
     let a = c .before .before .before .before in
@@ -30,4 +27,4 @@ returns-3 c =
     (read-bytes (a .args .got) _ (n .result) (simp (toZ-ofZ w64) at (c .before .before .if1 .left)) (simp (toZ-ofZ w64) at (n .ensures .1)) (c .if2 .left), (omega arith, omega arith))
 
 pub read-meaning-spec : {M : Type 1} → statement M
-read-meaning-spec = tie.close (tie.spec returns count-requires returns-2 returns-3)
+read-meaning-spec = tie.close (tie.spec returns (λ c κs. search needs) returns-2 returns-3)

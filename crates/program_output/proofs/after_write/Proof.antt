@@ -8,12 +8,6 @@ use Rattle.program_output.proofs.Writing.{bytes-more, bytes-whole}
 use Rattle.program_output.proofs.after_write.Statement.{statement}
 use Rattle.program_output.proofs.after_write.Tie as tie
 
-enum-told : tie.Need-enum-told
-enum-told c = search needs
-
-enum-known-wrote : tie.Need-enum-known-wrote
-enum-known-wrote c = search needs
-
 add-count : tie.Need-add-count
 add-count c = omega (arith, ap bytesTaken (c .before .wrote .given .1), c .before .before .before .pre)
 
@@ -36,4 +30,4 @@ returns-3 c =
 
 pub after-write-spec : {M : Type 1} → statement M
 after-write-spec =
-    tie.close (tie.spec enum-told enum-known-wrote add-count sub-left returns returns-2 returns-3)
+    tie.close (tie.spec (λ c. search needs) (λ c. search needs) add-count sub-left returns returns-2 returns-3)

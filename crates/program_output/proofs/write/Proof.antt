@@ -14,15 +14,6 @@ Inv-loop fd text size before₀ last₀ before last = before + bytesTaken last �
 abbrev μ-loop : tie.MeasureT-loop
 μ-loop fd text size before₀ last₀ before last = writesLeft before last size
 
-loop-holds : tie.Need-loop-holds Inv-loop μ-loop
-loop-holds c = search needs
-
-after-write-requires : tie.Need-after-write-requires Inv-loop μ-loop
-after-write-requires c κs = search needs
-
-enum-known-step : tie.Need-enum-known-step Inv-loop μ-loop
-enum-known-step c = search needs
-
 sub-write-once : tie.Need-sub-write-once Inv-loop μ-loop
 sub-write-once c =
     let a = c .before .before .before .after-write in
@@ -36,12 +27,6 @@ part-write-once-start c =
     let l = c .before .before .before .before .loop in
     let m = step-more (l .last) (l .before) _ _ (sym (c .before .step .given .1) ∙ a .ensures) in
     search needs
-
-part-write-once-end : tie.Need-part-write-once-end Inv-loop μ-loop
-part-write-once-end c = search needs
-
-write-once-requires : tie.Need-write-once-requires Inv-loop μ-loop
-write-once-requires c κs = search needs
 
 loop-less : tie.Need-loop-less Inv-loop μ-loop
 loop-less c =
@@ -60,9 +45,6 @@ loop-again c =
     let m = step-more (l .last) (l .before) _ _ (sym (c .before .before .before .step .given .1) ∙ a .ensures) in
     next-fits (w .result) _ _ _ (w .ensures) (m .0) (omega arith)
 
-enum-known-step-2 : tie.Need-enum-known-step-2 Inv-loop μ-loop
-enum-known-step-2 c = search needs
-
 returns : tie.Need-returns Inv-loop μ-loop
 returns c =
     let a = c .before .before .before .after-write in
@@ -75,14 +57,14 @@ write-spec =
     (tie.spec
     Inv-loop
     μ-loop
-    loop-holds
-    after-write-requires
-    enum-known-step
+    (λ c. search needs)
+    (λ c κs. search needs)
+    (λ c. search needs)
     sub-write-once
     part-write-once-start
-    part-write-once-end
-    write-once-requires
+    (λ c. search needs)
+    (λ c κs. search needs)
     loop-less
     loop-again
-    enum-known-step-2
+    (λ c. search needs)
     returns)

@@ -8,9 +8,6 @@ use Rattle.program_output.proofs.Writing.{write-failed, write-bytes}
 use Rattle.program_output.proofs.write_meaning.Statement.{statement}
 use Rattle.program_output.proofs.write_meaning.Tie as tie
 
-count-requires : tie.Need-count-requires
-count-requires c κs = search needs
-
 returns : tie.Need-returns
 returns c =
     let a = c .before .before .before in
@@ -25,4 +22,4 @@ returns-2 c =
     (write-bytes (a .args .got) _ (n .result) (simp (toZ-ofZ w64) at (n .ensures .1)) (c .if1 .left), (omega arith, omega arith))
 
 pub write-meaning-spec : {M : Type 1} → statement M
-write-meaning-spec = tie.close (tie.spec count-requires returns returns-2)
+write-meaning-spec = tie.close (tie.spec (λ c κs. search needs) returns returns-2)

@@ -1,7 +1,6 @@
 -- The ladder of refusals, and past it the position.
 use Prim.Native.Nat.{ℕ}
 use mathlib.Core.Path.{_≡_, sym, ap, _∙_}
-use mathlib.Core.Bool.{true, not}
 use native.Mathlib.Omega.{arith}
 use denote.Ref.{now}
 use Rattle.octets.specs.Refusal.{refusalIn}
@@ -31,9 +30,6 @@ ready : (c : tie.Else2) (r : ℕ) → let k = c .before .before .before .before 
 unfolding offerRefusal
 ready c r e = then-pass _ _ r (fits (c .before)) (pass-eq _ _ 27 _ r (c .if2 .left) e)
 
-is-broken-requires : tie.Need-is-broken-requires
-is-broken-requires c κs = search needs
-
 returns : tie.Need-returns
 unfolding offerRefusal offerDue
 returns c = refusing-now 30 _ _ (then-fail _ _ 30 (unfit _ (sym (c .before .is-broken .ensures) ∙ c .if1 .taken)) (λ q. omega arith)) (λ q. omega arith)
@@ -42,21 +38,6 @@ returns-2 : tie.Need-returns-2
 unfolding offerRefusal offerDue
 returns-2 c = refusing-now 27 _ _ (then-pass _ _ 27 (fits (c .before)) (fail-eq _ _ 27 _ (c .if2 .taken))) (λ q. omega arith)
 
-cast-read-answer : tie.Need-cast-read-answer
-cast-read-answer c = search needs
-
-read-answer-requires : tie.Need-read-answer-requires
-read-answer-requires c κs = search needs
-
-enum-known-answer : tie.Need-enum-known-answer
-enum-known-answer c = search needs
-
-enum-told : tie.Need-enum-told
-enum-told c = search needs
-
-refusal-number-requires : tie.Need-refusal-number-requires
-refusal-number-requires c κs = search needs
-
 returns-3 : tie.Need-returns-3
 unfolding offerRefusal offerDue
 returns-3 c =
@@ -64,12 +45,6 @@ returns-3 c =
     let a = c .before .before .before in
     let h = handed-on _ _ _ _ (ap packetSaid (sym t) ∙ a .read-answer .ensures) (c .refusal-number .ensures ∙ ap (λ (x : PacketAnswer). refusalIn (packetSaid x)) t) in
     refusing-now _ _ _ (ready (a .before .before) _ (h .0)) (h .1)
-
-locate-requires : tie.Need-locate-requires
-locate-requires c κs = search needs
-
-position-answer-requires : tie.Need-position-answer-requires
-position-answer-requires c κs = search needs
 
 returns-4 : tie.Need-returns-4
 unfolding offerRefusal offerDue
@@ -86,15 +61,15 @@ pub offer-answer-spec : {M : Type 1} → statement M
 offer-answer-spec =
     tie.close
     (tie.spec
-    is-broken-requires
+    (λ c κs. search needs)
     returns
     returns-2
-    cast-read-answer
-    read-answer-requires
-    enum-known-answer
-    enum-told
-    refusal-number-requires
+    (λ c. search needs)
+    (λ c κs. search needs)
+    (λ c. search needs)
+    (λ c. search needs)
+    (λ c κs. search needs)
     returns-3
-    locate-requires
-    position-answer-requires
+    (λ c κs. search needs)
+    (λ c κs. search needs)
     returns-4)

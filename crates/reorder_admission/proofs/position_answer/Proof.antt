@@ -49,24 +49,15 @@ asked c =
     let k = c .before .before .before .before in
     c .is-held .ensures ∙ ap (λ (x : ℤ). heldAt (window k) (natAbs x)) (toZ-ofZ w64 (at k) (fits-i64 k))
 
-enum-known-located : tie.Need-enum-known-located
-enum-known-located c = search needs
-
-enum-told : tie.Need-enum-told
-enum-told c = search needs
-
 returns : tie.Need-returns
 unfolding admitted
-returns c = ap (λ (l : Located). admitted (c .before .before .args .window .start) (heldAt (c .before .before .args .window)) (locatedSaid l)) (sym (c .enum-told .given .1))
+returns c = search needs
 
 returns-2 : tie.Need-returns-2
 returns-2 c =
     let k = c .before in
     let f : SFits w64 (at k) = fits-i64 k in
     beyond (window k .start) (heldAt (window k)) (at k) (simp (toZ-ofZ w64) at (c .if1 .taken)) ∙ told k
-
-cast-if2 : tie.Need-cast-if2
-cast-if2 c = search needs
 
 returns-3 : tie.Need-returns-3
 returns-3 c =
@@ -79,9 +70,6 @@ cast-n c =
     let k = c .before .before .before in
     let f : SFits w64 (at k) = fits-i64 k in
     simp (toZ-ofZ w64) (fits-u32 (window k .start) (heldAt (window k)) (at k) (top (c .before .before)) (low c))
-
-is-held-requires : tie.Need-is-held-requires
-is-held-requires c κs = search needs
 
 returns-4 : tie.Need-returns-4
 returns-4 c =
@@ -117,14 +105,14 @@ pub position-answer-spec : {M : Type 1} → statement M
 position-answer-spec =
     tie.close
     (tie.spec
-    enum-known-located
-    enum-told
+    (λ c. search needs)
+    (λ c. search needs)
     returns
     returns-2
-    cast-if2
+    (λ c. search needs)
     returns-3
     cast-n
-    is-held-requires
+    (λ c κs. search needs)
     returns-4
     sub-if4
     returns-5

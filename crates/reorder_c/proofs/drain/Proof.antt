@@ -29,15 +29,6 @@ only-waiting (packet p) e = let z : _≡_ {A = ℕ} 0 1 = cc in absurd (omega ar
 only-waiting (missing p) e = let z : _≡_ {A = ℕ} 0 1 = cc in absurd (omega arith)
 only-waiting waiting e = refl
 
-drain-refusal-requires : tie.Need-drain-refusal-requires
-drain-refusal-requires c κs = search needs
-
-waits-requires : tie.Need-waits-requires
-waits-requires c κs = search needs
-
-put-descriptions-requires : tie.Need-put-descriptions-requires
-put-descriptions-requires c κs = search needs
-
 returns : tie.Need-returns
 unfolding describedAll
 returns c =
@@ -58,15 +49,6 @@ returns c =
     })
     (record { count = refl; numbers = c .put-descriptions .ensures })
 
-drain-turns-requires : tie.Need-drain-turns-requires
-drain-turns-requires c κs = search needs
-
-same-length : tie.Need-same-length
-same-length c = search needs
-
-returns-2 : tie.Need-returns-2
-returns-2 c = search needs
-
 pub drain-spec : {M : Type 1} → statement M
 drain-spec =
-    tie.close (tie.spec drain-refusal-requires waits-requires put-descriptions-requires returns drain-turns-requires same-length returns-2)
+    tie.close (tie.spec (λ c κs. search needs) (λ c κs. search needs) (λ c κs. search needs) returns (λ c κs. search needs) (λ c. search needs) (λ c. search needs))

@@ -2,9 +2,8 @@
 use Prim.Native.Nat.{ℕ}
 use mathlib.Core.Path.{_≡_, refl, sym, ap, _∙_}
 use mathlib.Core.List.{List}
-use native.Mathlib.Omega.{arith}
 use denote.Ref.{now}
-use Rattle.octets.specs.Refusal.{Said, refused, answered}
+use Rattle.octets.specs.Refusal.{Said}
 use Rattle.reorder_rules.specs.Turn.{Turn}
 use Rattle.reorder_rules.proofs.Said.{comes-by}
 use Rattle.reorder_rules.proofs.Numbered.{drain-numbered}
@@ -51,34 +50,10 @@ told c e table =
     (record { comes = comes-by (o .comes) refl t refl; count = ap (λ (s : Session). s .window .start) t ∙ o .count })
     (record { count = c .drained-count .ensures ∙ ap drainedCount (count-is c); numbers = table })
 
-drain-requires : tie.Need-drain-requires
-drain-requires c κs = search needs
-
-with-window-requires : tie.Need-with-window-requires
-with-window-requires c κs = search needs
-
-drained-count-requires : tie.Need-drained-count-requires
-drained-count-requires c κs = search needs
-
-enum-told : tie.Need-enum-told
-enum-told c = search needs
-
-enum-told-2 : tie.Need-enum-told-2
-enum-told-2 c = search needs
-
-same-length : tie.Need-same-length
-same-length c = search needs
-
 returns : tie.Need-returns
 returns c =
     let d = c .before .before in
     told d _ (numbers-stay (due d) (old d) _ (sym (count-is d) ∙ ap drainSaid (c .enum-told2 .given .1)))
-
-put-descriptions-requires : tie.Need-put-descriptions-requires
-put-descriptions-requires c κs = search needs
-
-same-length-2 : tie.Need-same-length-2
-same-length-2 c = search needs
 
 returns-2 : tie.Need-returns-2
 returns-2 c =
@@ -93,13 +68,13 @@ pub drain-turns-spec : {M : Type 1} → statement M
 drain-turns-spec =
     tie.close
     (tie.spec
-    drain-requires
-    with-window-requires
-    drained-count-requires
-    enum-told
-    enum-told-2
-    same-length
+    (λ c κs. search needs)
+    (λ c κs. search needs)
+    (λ c κs. search needs)
+    (λ c. search needs)
+    (λ c. search needs)
+    (λ c. search needs)
     returns
-    put-descriptions-requires
-    same-length-2
+    (λ c κs. search needs)
+    (λ c. search needs)
     returns-2)

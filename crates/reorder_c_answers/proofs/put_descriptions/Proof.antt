@@ -18,42 +18,6 @@ abbrev μ-loop : tie.MeasureT-loop
 room : (b : tie.At-loop Inv-loop μ-loop) → length (b .loop .numbers) ≡ 64
 room b = stored-length (b .before .before .args .t1) _ _ (b .loop .i) (b .loop .inv) ∙ b .before .numbers .given .0 .1
 
-loop-holds : tie.Need-loop-holds Inv-loop μ-loop
-loop-holds c = stored-none (c .before .args .t1) _
-
-mul-description : tie.Need-mul-description Inv-loop μ-loop
-mul-description c = search needs
-
-array-copy-out-description : tie.Need-array-copy-out-description Inv-loop μ-loop
-array-copy-out-description c = search needs
-
-mul-numbers : tie.Need-mul-numbers Inv-loop μ-loop
-mul-numbers c = search needs
-
-mul-numbers-2 : tie.Need-mul-numbers-2 Inv-loop μ-loop
-mul-numbers-2 c = search needs
-
-slice-write-numbers : tie.Need-slice-write-numbers Inv-loop μ-loop
-slice-write-numbers c = omega (arith, room (c .before .before))
-
-mul-numbers-3 : tie.Need-mul-numbers-3 Inv-loop μ-loop
-mul-numbers-3 c = search needs
-
-add-numbers : tie.Need-add-numbers Inv-loop μ-loop
-add-numbers c = search needs
-
-mul-numbers-4 : tie.Need-mul-numbers-4 Inv-loop μ-loop
-mul-numbers-4 c = search needs
-
-slice-write-numbers-2 : tie.Need-slice-write-numbers-2 Inv-loop μ-loop
-slice-write-numbers-2 c = simp length-set (omega (arith, room (c .before .before)))
-
-add-i : tie.Need-add-i Inv-loop μ-loop
-add-i c = search needs
-
-loop-less : tie.Need-loop-less Inv-loop μ-loop
-loop-less c = search needs
-
 loop-again : tie.Need-loop-again Inv-loop μ-loop
 unfolding put
 loop-again c =
@@ -70,17 +34,17 @@ put-descriptions-spec =
     (tie.spec
     Inv-loop
     μ-loop
-    loop-holds
-    mul-description
-    array-copy-out-description
-    mul-numbers
-    mul-numbers-2
-    slice-write-numbers
-    mul-numbers-3
-    add-numbers
-    mul-numbers-4
-    slice-write-numbers-2
-    add-i
-    loop-less
+    (λ c. stored-none (c .before .args .t1) _)
+    (λ c. search needs)
+    (λ c. search needs)
+    (λ c. search needs)
+    (λ c. search needs)
+    (λ c. omega (arith, room (c .before .before)))
+    (λ c. search needs)
+    (λ c. search needs)
+    (λ c. search needs)
+    (λ c. simp length-set (omega (arith, room (c .before .before))))
+    (λ c. search needs)
+    (λ c. search needs)
     loop-again
     returns)

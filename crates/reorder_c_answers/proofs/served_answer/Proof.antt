@@ -26,21 +26,12 @@ described-numbers (Sv.Packet p) h = refl
 described-numbers (Sv.Missing p) h = refl
 described-numbers Sv.Waiting h = refl
 
-enum-known-answer : tie.Need-enum-known-answer
-enum-known-answer c = search needs
-
-cast-t4 : tie.Need-cast-t4
-cast-t4 c = search needs
-
 returns : tie.Need-returns
 returns c = ap (λ (a : ServeAnswer). servedAnswer (serveSaid a)) (sym (c .before .answer .given .1))
-
-describe-requires : tie.Need-describe-requires
-describe-requires c κs = search needs
 
 returns-2 : tie.Need-returns-2
 returns-2 c = ap told (c .describe .ensures) ∙ described-numbers (c .before .before .args .answer) (c .before .match .keys2)
 
 pub served-answer-spec : {M : Type 1} → statement M
 served-answer-spec =
-    tie.close (tie.spec enum-known-answer cast-t4 returns describe-requires returns-2)
+    tie.close (tie.spec (λ c. search needs) (λ c. search needs) returns (λ c κs. search needs) returns-2)

@@ -10,15 +10,6 @@ use borrow.Author.Needs.{needs}
 use Rattle.reorder_offer.proofs.offer.Statement.{statement}
 use Rattle.reorder_offer.proofs.offer.Tie as tie
 
-offer-answer-requires : tie.Need-offer-answer-requires
-offer-answer-requires c κs = search needs
-
-enum-known-answer : tie.Need-enum-known-answer
-enum-known-answer c = search needs
-
-enum-told : tie.Need-enum-told
-enum-told c = search needs
-
 returns : tie.Need-returns
 unfolding offerOf
 returns c =
@@ -26,25 +17,10 @@ returns c =
     let e = ap offerSaid (sym (c .enum-told .given .1)) ∙ j in
     comes-by (stays _ _ _ _ _ _ e) (ap offerSaid (c .enum-told .given .1)) refl refl
 
-cast-put-packet : tie.Need-cast-put-packet
-cast-put-packet c = search needs
-
-mul-put-packet : tie.Need-mul-put-packet
-mul-put-packet c = search needs
-
 put-packet-requires : tie.Need-put-packet-requires
 put-packet-requires c κs =
     let e = ap offerSaid (sym (c .before .before .answer .given .1)) ∙ c .before .before .before .before .offer-answer .ensures in
     accepted _ _ (taken-offer single _ _ _ _ (sym e) .read) .size
-
-hold-requires : tie.Need-hold-requires
-hold-requires c κs = search needs
-
-with-window-requires : tie.Need-with-window-requires
-with-window-requires c κs = search needs
-
-same-length : tie.Need-same-length
-same-length c = search needs
 
 returns-2 : tie.Need-returns-2
 unfolding offerOf
@@ -59,14 +35,14 @@ pub offer-spec : {M : Type 1} → statement M
 offer-spec =
     tie.close
     (tie.spec
-    offer-answer-requires
-    enum-known-answer
-    enum-told
+    (λ c κs. search needs)
+    (λ c. search needs)
+    (λ c. search needs)
     returns
-    cast-put-packet
-    mul-put-packet
+    (λ c. search needs)
+    (λ c. search needs)
     put-packet-requires
-    hold-requires
-    with-window-requires
-    same-length
+    (λ c κs. search needs)
+    (λ c κs. search needs)
+    (λ c. search needs)
     returns-2)

@@ -40,18 +40,6 @@ unfolding openRefusal openDue openOf
 returns-3 c =
     stays _ _ _ _ 27 _ (say-refused {A = ℕ} 27 _ 0 (pass-within 1 31 _ 20 _ 27 (c .before .before .if1 .left) (c .before .if2 .left) (fail-eq _ _ 27 _ (c .if3 .taken))) (λ q. omega arith))
 
-read-answer-requires : tie.Need-read-answer-requires
-read-answer-requires c κs = search needs
-
-enum-known-answer : tie.Need-enum-known-answer
-enum-known-answer c = search needs
-
-enum-told : tie.Need-enum-told
-enum-told c = search needs
-
-refusal-number-requires : tie.Need-refusal-number-requires
-refusal-number-requires c κs = search needs
-
 returns-4 : tie.Need-returns-4
 unfolding openRefusal openDue openOf
 returns-4 c =
@@ -86,10 +74,10 @@ open-or-spec =
     returns
     returns-2
     returns-3
-    read-answer-requires
-    enum-known-answer
-    enum-told
-    refusal-number-requires
+    (λ c κs. search needs)
+    (λ c. search needs)
+    (λ c. search needs)
+    (λ c κs. search needs)
     returns-4
     put-packet-requires
     (λ c. search needs)

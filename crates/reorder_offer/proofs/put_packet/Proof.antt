@@ -13,12 +13,6 @@ use Rattle.reorder_offer.proofs.put_packet.Tie as tie
 slice-aggregate-write-into : tie.Need-slice-aggregate-write-into
 slice-aggregate-write-into c = sym (length-take-le 1080 (c .before .before .before .args .packet .now) (omega (arith, c .before .before .before .pre)))
 
-write-into-requires : tie.Need-write-into-requires
-write-into-requires c κs = search needs
-
-same-length : tie.Need-same-length
-same-length c = search needs
-
 returns : tie.Need-returns
 returns c =
     let k = c .before .before .before .before .before .before .before in
@@ -27,4 +21,4 @@ returns c =
     ∙ ap (λ (b : List ℕ). put (now (a .store)) (a .at) b) (take-all 1080 (now (a .packet)) (omega (arith, k .pre)))
 
 pub put-packet-spec : {M : Type 1} → statement M
-put-packet-spec = tie.close (tie.spec slice-aggregate-write-into write-into-requires same-length returns)
+put-packet-spec = tie.close (tie.spec slice-aggregate-write-into (λ c κs. search needs) (λ c. search needs) returns)

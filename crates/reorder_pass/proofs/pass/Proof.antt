@@ -18,9 +18,6 @@ use Rattle.reorder_pass.proofs.pass.Tie as tie
 unbroken : (c : tie.Else1) → broken (c .before .before .args .session) ≡ false
 unbroken c = sym (c .before .is-broken .ensures) ∙ c .if1 .left
 
-is-broken-requires : tie.Need-is-broken-requires
-is-broken-requires c κs = search needs
-
 returns : tie.Need-returns
 unfolding passOf passRefusal
 returns c =
@@ -33,9 +30,6 @@ returns-2 c =
     let n : 28 ≡ passRefusal single (c .before .before .before .before .args .session) =
     then-pass _ _ 28 (fit _ (unbroken (c .before .before))) (fail _ 28 _ (ap not (eq-eqb _ _ (c .if2 .taken)))) in
     stays _ _ _ _ _ _ (say-refused _ _ _ n (λ q. omega arith))
-
-is-start-held-requires : tie.Need-is-start-held-requires
-is-start-held-requires c κs = search needs
 
 returns-3 : tie.Need-returns-3
 unfolding passOf passRefusal
@@ -62,10 +56,10 @@ pub pass-spec : {M : Type 1} → statement M
 pass-spec =
     tie.close
     (tie.spec
-    is-broken-requires
+    (λ c κs. search needs)
     returns
     returns-2
-    is-start-held-requires
+    (λ c κs. search needs)
     returns-3
     (λ c κs. search needs)
     (λ c κs. search needs)

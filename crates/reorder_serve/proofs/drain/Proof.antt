@@ -24,9 +24,6 @@ passes : (c : tie.Else1) → let a = c .before .before .before .before .args in
     drainRefusal (a .session) (length (now (a .store))) (length (now (a .out))) (a .budget) ≡ 0
 passes c = sym (c .before .drain-refusal .ensures) ∙ c .if1 .left
 
-drain-refusal-requires : tie.Need-drain-refusal-requires
-drain-refusal-requires c κs = search needs
-
 returns : tie.Need-returns
 unfolding drainOf
 returns c =
@@ -39,9 +36,6 @@ run-requires : tie.Need-run-requires
 run-requires c κs =
     let r = drain-ready single _ _ _ _ (passes (c .before)) in
     (whole-fit _ (r .fit) .next-most, (r .store, r .most))
-
-same-length : tie.Need-same-length
-same-length c = search needs
 
 returns-2 : tie.Need-returns-2
 unfolding drainOf
@@ -61,4 +55,4 @@ returns-2 c =
     (record { count = r .0; described = r .1 .0 })
 
 pub drain-spec : {M : Type 1} → statement M
-drain-spec = tie.close (tie.spec drain-refusal-requires returns run-requires same-length returns-2)
+drain-spec = tie.close (tie.spec (λ c κs. search needs) returns run-requires (λ c. search needs) returns-2)

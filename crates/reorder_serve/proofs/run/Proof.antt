@@ -1,7 +1,6 @@
 -- The answers so far, and what they leave, are the loop's invariant.
 use Prim.Native.Nat.{_-_}
 use mathlib.Core.Path.{_≡_, refl, sym, ap, _∙_}
-use native.Mathlib.Omega.{arith}
 use denote.Ref.{now}
 use lib.ListN.{length}
 use Rattle.reorder_rules.proofs.Turns.{shown-length, turns-stop}
@@ -37,41 +36,11 @@ module _ (c : tie.After-step Inv-loop μ-loop) where
 described-is : (c : tie.After-describe Inv-loop μ-loop) → c .describe .result ≡ described (turn (now-is (c .before .before .before)))
 described-is c = c .describe .ensures ∙ ap descriptionOf (c .before .before .before .step .ensures .0)
 
-loop-holds : tie.Need-loop-holds Inv-loop μ-loop
-loop-holds c = run-none _ _ _ _
-
-step-requires : tie.Need-step-requires Inv-loop μ-loop
-step-requires c κs =
-    let l = c .before .before in
-    let p = l .before .before .before .pre in
-    (omega (arith, p .0, l .loop .inv .next, l .loop .inv .within, p .1 .1), p .1 .0)
-
-describe-requires : tie.Need-describe-requires Inv-loop μ-loop
-describe-requires c κs = search needs
-
-same-length : tie.Need-same-length Inv-loop μ-loop
-same-length c = out-size (c .before .before .before .before .before)
-
 returns : tie.Need-returns Inv-loop μ-loop
 returns c =
     let k = c .before .before .before .before .before in
     let w = no-kind (turn (now-is k)) (sym (ap (λ (d : Description). d .kind) (described-is (c .before .before))) ∙ c .if1 .taken) in
     run-done _ _ _ _ _ _ _ _ (L k .loop .inv) _ (k .step .ensures .1 .1 ∙ ap (shown _ _ _ _) w) (turns-stop single _ _ w)
-
-cast-descriptions : tie.Need-cast-descriptions Inv-loop μ-loop
-cast-descriptions c = search needs
-
-mul-descriptions : tie.Need-mul-descriptions Inv-loop μ-loop
-mul-descriptions c = search needs
-
-array-set-from-descriptions : tie.Need-array-set-from-descriptions Inv-loop μ-loop
-array-set-from-descriptions c = search needs
-
-add-i : tie.Need-add-i Inv-loop μ-loop
-add-i c = search needs
-
-loop-less : tie.Need-loop-less Inv-loop μ-loop
-loop-less c = search needs
 
 loop-again : tie.Need-loop-again Inv-loop μ-loop
 loop-again c =
@@ -80,9 +49,6 @@ loop-again c =
     run-more _ _ _ _ _ _ _ _ (L k .loop .inv) (k .before .before .loop-test .taken) (L k .before .before .before .pre .1 .1) _ _ _
     (λ z. c .before .if1 .left (ap (λ (d : Description). d .kind) e ∙ z))
     (k .step .ensures .1 .0) (k .step .ensures .1 .1) e
-
-same-length-2 : tie.Need-same-length-2 Inv-loop μ-loop
-same-length-2 c = c .before .loop .inv .size
 
 returns-2 : tie.Need-returns-2 Inv-loop μ-loop
 returns-2 c = run-done _ _ _ _ _ _ _ _ (c .before .loop .inv) _ refl (run-spent _ _ _ _ _ _ _ _ (c .before .loop .inv) (c .loop-test .left))
@@ -93,16 +59,16 @@ run-spec =
     (tie.spec
     Inv-loop
     μ-loop
-    loop-holds
-    step-requires
-    describe-requires
-    same-length
+    (λ c. run-none _ _ _ _)
+    (λ c κs. search needs)
+    (λ c κs. search needs)
+    (λ c. search needs)
     returns
-    cast-descriptions
-    mul-descriptions
-    array-set-from-descriptions
-    add-i
-    loop-less
+    (λ c. search needs)
+    (λ c. search needs)
+    (λ c. search needs)
+    (λ c. search needs)
+    (λ c. search needs)
     loop-again
-    same-length-2
+    (λ c. search needs)
     returns-2)

@@ -20,9 +20,6 @@ passes c = sym (c .before .serve-refusal .ensures) ∙ c .if1 .left
 ready : (c : tie.Else1) → let a = c .before .before .before .before .args in ServeReady single (a .session) (length (now (a .store))) (length (now (a .out)))
 ready c = serve-ready single _ _ _ (passes c)
 
-serve-refusal-requires : tie.Need-serve-refusal-requires
-serve-refusal-requires c κs = search needs
-
 returns : tie.Need-returns
 unfolding serveOf
 returns c =
@@ -34,9 +31,6 @@ step-requires c κs =
     let r = ready (c .before) in
     (omega (arith, whole-fit _ (r .fit) .next-most), r .store)
 
-same-length : tie.Need-same-length
-same-length c = search needs
-
 returns-2 : tie.Need-returns-2
 unfolding serveOf
 returns-2 c =
@@ -47,4 +41,4 @@ returns-2 c =
 
 pub serve-spec : {M : Type 1} → statement M
 serve-spec =
-    tie.close (tie.spec serve-refusal-requires returns step-requires same-length returns-2)
+    tie.close (tie.spec (λ c κs. search needs) returns step-requires (λ c. search needs) returns-2)

@@ -30,42 +30,6 @@ part-is i n s = let e : (i + n) - i ≡ n = omega arith in ap (λ (k : ℕ). tak
 free : (c : tie.Else1) → let w = c .before .before .before .before .before .args .session .window in heldAt w (w .start) ≡ false
 free c = sym (c .before .is-start-held .ensures) ∙ c .if1 .left
 
-is-start-held-requires : tie.Need-is-start-held-requires
-is-start-held-requires c κs = search needs
-
-cast-from : tie.Need-cast-from
-cast-from c = search needs
-
-mul-from : tie.Need-mul-from
-mul-from c = search needs
-
-add-write-into : tie.Need-add-write-into
-add-write-into c = search needs
-
-sub-write-into : tie.Need-sub-write-into
-sub-write-into c = search needs
-
-part-write-into-start : tie.Need-part-write-into-start
-part-write-into-start c = search needs
-
-part-write-into-end : tie.Need-part-write-into-end
-part-write-into-end c = search needs
-
-mul-write-into : tie.Need-mul-write-into
-mul-write-into c = search needs
-
-write-into-requires : tie.Need-write-into-requires
-write-into-requires c κs = search needs
-
-free-requires : tie.Need-free-requires
-free-requires c κs = search needs
-
-with-window-requires : tie.Need-with-window-requires
-with-window-requires c κs = search needs
-
-same-length : tie.Need-same-length
-same-length c = search needs
-
 returns : tie.Need-returns
 returns c =
     let w = c .before .before .before .before in
@@ -78,15 +42,6 @@ returns c =
     (turn-packet single s (sym (t .before .is-start-held .ensures) ∙ t .if1 .taken))
     (c .with-window .ensures ∙ ap (withWindow s) (c .before .free .ensures ∙ has-32-bits (freed (s .window)) (omega (arith, k .pre .0))))
     (w .write-into .ensures ∙ ap (put (now (a .out)) (1080 * a .i)) (part-is from 1080 (now (a .store))))
-
-is-held-ahead-requires : tie.Need-is-held-ahead-requires
-is-held-ahead-requires c κs = search needs
-
-skip-requires : tie.Need-skip-requires
-skip-requires c κs = search needs
-
-with-window-requires-2 : tie.Need-with-window-requires-2
-with-window-requires-2 c κs = search needs
 
 returns-2 : tie.Need-returns-2
 returns-2 c =
@@ -109,21 +64,21 @@ pub step-spec : {M : Type 1} → statement M
 step-spec =
     tie.close
     (tie.spec
-    is-start-held-requires
-    cast-from
-    mul-from
-    add-write-into
-    sub-write-into
-    part-write-into-start
-    part-write-into-end
-    mul-write-into
-    write-into-requires
-    free-requires
-    with-window-requires
-    same-length
+    (λ c κs. search needs)
+    (λ c. search needs)
+    (λ c. search needs)
+    (λ c. search needs)
+    (λ c. search needs)
+    (λ c. search needs)
+    (λ c. search needs)
+    (λ c. search needs)
+    (λ c κs. search needs)
+    (λ c κs. search needs)
+    (λ c κs. search needs)
+    (λ c. search needs)
     returns
-    is-held-ahead-requires
-    skip-requires
-    with-window-requires-2
+    (λ c κs. search needs)
+    (λ c κs. search needs)
+    (λ c κs. search needs)
     returns-2
     returns-3)

@@ -52,13 +52,10 @@ returns c =
     let s = c .before .args .session in
     sym (by-fields s ∙ ap (λ (b : Bool). b || pastEnd (s .window)) (c .if1 .taken))
 
-is-past-end-requires : tie.Need-is-past-end-requires
-is-past-end-requires c κs = search needs
-
 returns-2 : tie.Need-returns-2
 returns-2 c =
     let s = c .before .before .args .session in
     c .is-past-end .ensures ∙ sym (by-fields s ∙ ap (λ (b : Bool). b || pastEnd (s .window)) (c .before .if1 .left))
 
 pub is-broken-spec : {M : Type 1} → statement M
-is-broken-spec = tie.close (tie.spec returns is-past-end-requires returns-2)
+is-broken-spec = tie.close (tie.spec returns (λ c κs. search needs) returns-2)

@@ -13,9 +13,6 @@ returns : tie.Need-returns
 unfolding pastEnd
 returns c = rw (lt-ltb 1000000 (c .before .before .args .window .start) (c .if1 .taken)) refl
 
-is-held-ahead-requires : tie.Need-is-held-ahead-requires
-is-held-ahead-requires c κs = search needs
-
 returns-2 : tie.Need-returns-2
 unfolding pastEnd
 returns-2 c =
@@ -24,4 +21,4 @@ returns-2 c =
     rw (le-ltb 1000000 (w .start) (c .before .before .if1 .left)) (c .is-held-ahead .ensures ∙ ap (someHeld w) e)
 
 pub is-past-end-spec : {M : Type 1} → statement M
-is-past-end-spec = tie.close (tie.spec returns is-held-ahead-requires returns-2)
+is-past-end-spec = tie.close (tie.spec returns (λ c κs. search needs) returns-2)

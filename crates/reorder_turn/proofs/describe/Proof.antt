@@ -7,18 +7,6 @@ use borrow.Author.Needs.{needs}
 use Rattle.reorder_turn.proofs.describe.Statement.{statement}
 use Rattle.reorder_turn.proofs.describe.Tie as tie
 
-enum-told : tie.Need-enum-told
-enum-told c = search needs
-
-enum-known-answer : tie.Need-enum-known-answer
-enum-known-answer c = search needs
-
-enum-known-answer-2 : tie.Need-enum-known-answer-2
-enum-known-answer-2 c = search needs
-
-enum-told-2 : tie.Need-enum-told-2
-enum-told-2 c = search needs
-
 returns : tie.Need-returns
 returns c = ap (λ (a : ServeAnswer). descriptionOf (serveSaid a)) (sym (c .enum-told .given .1))
 
@@ -35,10 +23,10 @@ pub describe-spec : {M : Type 1} → statement M
 describe-spec =
     tie.close
     (tie.spec
-    enum-told
-    enum-known-answer
-    enum-known-answer-2
-    enum-told-2
+    (λ c. search needs)
+    (λ c. search needs)
+    (λ c. search needs)
+    (λ c. search needs)
     returns
     returns-2
     returns-3

@@ -12,9 +12,6 @@ use Rattle.reorder_turn.proofs.drain_refusal.Tie as tie
 fits : (c : tie.Else1) → single .unfit (c .before .before .args .session) ≡ 0
 fits c = fit _ (sym (c .before .is-broken .ensures) ∙ c .if1 .left)
 
-is-broken-requires : tie.Need-is-broken-requires
-is-broken-requires c κs = search needs
-
 returns : tie.Need-returns
 unfolding drainRefusal
 returns c = then-fail _ _ 30 (unfit _ (sym (c .before .is-broken .ensures) ∙ c .if1 .taken)) (λ q. omega arith)
@@ -41,4 +38,4 @@ returns-5 c =
 
 pub drain-refusal-spec : {M : Type 1} → statement M
 drain-refusal-spec =
-    tie.close (tie.spec is-broken-requires returns returns-2 returns-3 returns-4 returns-5)
+    tie.close (tie.spec (λ c κs. search needs) returns returns-2 returns-3 returns-4 returns-5)

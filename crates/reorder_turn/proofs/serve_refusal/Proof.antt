@@ -12,9 +12,6 @@ use Rattle.reorder_turn.proofs.serve_refusal.Tie as tie
 fits : (c : tie.Else1) → single .unfit (c .before .before .args .session) ≡ 0
 fits c = fit _ (sym (c .before .is-broken .ensures) ∙ c .if1 .left)
 
-is-broken-requires : tie.Need-is-broken-requires
-is-broken-requires c κs = search needs
-
 returns : tie.Need-returns
 unfolding serveRefusal
 returns c = then-fail _ _ 30 (unfit _ (sym (c .before .is-broken .ensures) ∙ c .if1 .taken)) (λ q. omega arith)
@@ -32,4 +29,4 @@ unfolding serveRefusal
 returns-4 c = then-pass _ _ 0 (fits (c .before .before)) (pass-eq _ _ 27 _ 0 (c .before .if2 .left) (pass-le _ _ 29 _ 0 (c .if3 .left) refl))
 
 pub serve-refusal-spec : {M : Type 1} → statement M
-serve-refusal-spec = tie.close (tie.spec is-broken-requires returns returns-2 returns-3 returns-4)
+serve-refusal-spec = tie.close (tie.spec (λ c κs. search needs) returns returns-2 returns-3 returns-4)

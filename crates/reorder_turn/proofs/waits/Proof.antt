@@ -17,14 +17,8 @@ by-ahead : (s : Session) → heldAt (s .window) (s .window .start) ≡ false →
 by-ahead s free true e = ap isWaiting (sym (turn-missing single s free e))
 by-ahead s free false e = ap isWaiting (sym (turn-waiting single s free e))
 
-is-start-held-requires : tie.Need-is-start-held-requires
-is-start-held-requires c κs = search needs
-
 returns : tie.Need-returns
 returns c = ap isWaiting (sym (turn-packet single (c .before .before .before .args .session) (sym (c .before .is-start-held .ensures) ∙ c .if1 .taken)))
-
-is-held-ahead-requires : tie.Need-is-held-ahead-requires
-is-held-ahead-requires c κs = search needs
 
 returns-2 : tie.Need-returns-2
 returns-2 c =
@@ -32,4 +26,4 @@ returns-2 c =
     (sym (c .before .before .is-start-held .ensures) ∙ c .before .if1 .left) (c .is-held-ahead .result) (sym (c .is-held-ahead .ensures))
 
 pub waits-spec : {M : Type 1} → statement M
-waits-spec = tie.close (tie.spec is-start-held-requires returns is-held-ahead-requires returns-2)
+waits-spec = tie.close (tie.spec (λ c κs. search needs) returns (λ c κs. search needs) returns-2)

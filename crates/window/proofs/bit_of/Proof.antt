@@ -6,11 +6,8 @@ use borrow.Author.Needs.{needs}
 use Rattle.window.proofs.bit_of.Statement.{statement}
 use Rattle.window.proofs.bit_of.Tie as tie
 
-shl-result : tie.Need-shl-result
-shl-result c = search needs
-
 returns : tie.Need-returns
 returns c = one-shl 32 (c .args .p % 32) (omega arith)
 
 pub bit-of-spec : {M : Type 1} → statement M
-bit-of-spec = tie.close (tie.spec shl-result returns)
+bit-of-spec = tie.close (tie.spec (λ c. search needs) returns)

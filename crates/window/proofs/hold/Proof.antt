@@ -7,9 +7,6 @@ use borrow.Author.Needs.{needs}
 use Rattle.window.proofs.hold.Statement.{statement}
 use Rattle.window.proofs.hold.Tie as tie
 
-bit-of-requires : tie.Need-bit-of-requires
-bit-of-requires c κs = search needs
-
 returns : tie.Need-returns
 returns c =
     let w = c .before .before .args .window in
@@ -17,4 +14,4 @@ returns c =
     λ i. record { start = w .start; marks = m i }
 
 pub hold-spec : {M : Type 1} → statement M
-hold-spec = tie.close (tie.spec bit-of-requires returns)
+hold-spec = tie.close (tie.spec (λ c κs. search needs) returns)

@@ -11,9 +11,6 @@ use borrow.Author.Needs.{needs}
 use Rattle.window.proofs.is_start_held.Statement.{statement}
 use Rattle.window.proofs.is_start_held.Tie as tie
 
-rotated-requires : tie.Need-rotated-requires
-rotated-requires c κs = search needs
-
 returns : tie.Need-returns
 returns c =
     let w = c .before .args .window in
@@ -23,4 +20,4 @@ returns c =
     ap (λ (n : ℕ). eqb n 1) (and-one r ∙ lowest) ∙ sym (rotated-held w r (c .rotated .ok) (c .rotated .ensures) 0 (omega arith)) ∙ ap (heldAt w) first
 
 pub is-start-held-spec : {M : Type 1} → statement M
-is-start-held-spec = tie.close (tie.spec rotated-requires returns)
+is-start-held-spec = tie.close (tie.spec (λ c κs. search needs) returns)

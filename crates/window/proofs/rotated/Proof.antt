@@ -8,15 +8,6 @@ use borrow.Author.Needs.{needs}
 use Rattle.window.proofs.rotated.Statement.{statement}
 use Rattle.window.proofs.rotated.Tie as tie
 
-shr-result : tie.Need-shr-result
-shr-result c = search needs
-
-sub-result : tie.Need-sub-result
-sub-result c = search needs
-
-shl-result : tie.Need-shl-result
-shl-result c = search needs
-
 returns : tie.Need-returns
 returns c =
     λ j h.
@@ -25,4 +16,4 @@ returns c =
     rotated-bit (w .marks) (w .start % 32) j (c .struct-known3 .given .1 .0 .fits) (omega arith) h ∙ ap (bit (w .marks)) e
 
 pub rotated-spec : {M : Type 1} → statement M
-rotated-spec = tie.close (tie.spec shr-result sub-result shl-result returns)
+rotated-spec = tie.close (tie.spec (λ c. search needs) (λ c. search needs) (λ c. search needs) returns)

@@ -8,13 +8,10 @@ use borrow.Author.Needs.{needs}
 use Rattle.window.proofs.unmark.Statement.{statement}
 use Rattle.window.proofs.unmark.Tie as tie
 
-bit-of-requires : tie.Need-bit-of-requires
-bit-of-requires c κs = search needs
-
 returns : tie.Need-returns
 returns c =
     let a = c .before .args in
     ap (λ (b : ℕ). bitAnd (a .marks) (4294967295 - b)) (c .bit-of .ensures) ∙ clear-bit 32 (a .marks) (a .p % 32) (c .before .fits .marks .fits) (omega arith)
 
 pub unmark-spec : {M : Type 1} → statement M
-unmark-spec = tie.close (tie.spec bit-of-requires returns)
+unmark-spec = tie.close (tie.spec (λ c κs. search needs) returns)

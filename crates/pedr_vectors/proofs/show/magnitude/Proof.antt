@@ -32,9 +32,6 @@ rest z f h =
 less-one : (c : tie.Then1) → toZ w64 (ofZ w64 (negsuc 0 -ℤ toZ w64 (ofZ w64 (c .before .args .n)))) ≡ pos (down (c .before .args .n) - 1)
 less-one c = rest (c .before .args .n) (c .before .fits .n) (simp (toZ-ofZ w64 _ (c .before .fits .n)) at (c .if1 .taken))
 
-sub-result : tie.Need-sub-result
-sub-result c = not-fits w64 _ (reread (c .before .fits .n))
-
 cast-result : tie.Need-cast-result
 cast-result c =
     rw (less-one c) (tt, record { fits = omega (arith, fits-down w64 (c .before .args .n) (c .before .fits .n)) })
@@ -47,12 +44,6 @@ cast-result-2 c =
     let f = c .before .fits .n in
     rw (toZ-ofZ w64 _ f) (natural _ (simp (toZ-ofZ w64 _ f) at (c .if1 .left)) f)
 
-returns : tie.Need-returns
-returns c = search needs
-
-returns-2 : tie.Need-returns-2
-returns-2 c = search needs
-
 pub magnitude-spec : {M : Type 1} → statement M
 magnitude-spec =
-    tie.close (tie.spec sub-result cast-result add-result cast-result-2 returns returns-2)
+    tie.close (tie.spec (λ c. not-fits w64 _ (reread (c .before .fits .n))) cast-result add-result cast-result-2 (λ c. search needs) (λ c. search needs))

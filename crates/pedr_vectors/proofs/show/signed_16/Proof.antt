@@ -5,14 +5,5 @@ use borrow.Author.Needs.{needs}
 use Rattle.pedr_vectors.proofs.show.signed_16.Statement.{statement}
 use Rattle.pedr_vectors.proofs.show.signed_16.Tie as tie
 
-cast-signed : tie.Need-cast-signed
-cast-signed c = sfits-widen tt (reread (c .fits .n))
-
-signed-requires : tie.Need-signed-requires
-signed-requires c κs = search needs
-
-returns : tie.Need-returns
-returns c = search needs
-
 pub signed-16-spec : {M : Type 1} → statement M
-signed-16-spec = tie.close (tie.spec cast-signed signed-requires returns)
+signed-16-spec = tie.close (tie.spec (λ c. sfits-widen tt (reread (c .fits .n))) (λ c κs. search needs) (λ c. search needs))
