@@ -1,5 +1,5 @@
 -- Document 01, "PEDR record": the columns of several items, by the table of the layout.
-use Prim.Native.Nat.{ℕ, suc}
+use Prim.Native.Nat.{ℕ}
 use mathlib.Core.List.{List}
 use mathlib.Core.Bool.{false}
 use lib.IntN.{pos}
@@ -9,7 +9,7 @@ use Rattle.layout.specs.Column.{item, values}
 use Rattle.pedr_layout.specs.Layout as columns
 use Rattle.pedr_flags.specs.Class.{classOf}
 use Rattle.pedr_flags.specs.Encoder.{encoderOf}
-use Rattle.pedr_flags.specs.Descriptor.{failuresOf}
+use Rattle.pedr_flags.specs.Descriptor.{allFailuresOf}
 use Rattle.pedr_flags.specs.declared.Encoder.{Encoder}
 use Rattle.pedr_flags.specs.declared.ShotFailures.{ShotFailures}
 use Rattle.pedr_arrays.specs.declared.ShotClass.{ShotClass}
@@ -17,7 +17,7 @@ use Rattle.pedr_arrays.specs.declared.ShotArrays.{ShotArrays}
 use Rattle.pedr_arrays.specs.declared.ChannelArrays.{ChannelArrays}
 use Rattle.pedr_arrays.specs.declared.RecordArrays.{RecordArrays}
 
--- the 20 classes, encoder bits and tests; shot s stands at index s - 1
+-- the 20 classes and encoder bits; shot s stands at index s - 1
 abbrev pub shotClass : ℕ → ShotClass
 shotClass n = record { class = classOf n }
 
@@ -26,9 +26,6 @@ classesOf s = table columns.shotCount (λ k. shotClass (item s columns.class k))
 
 unfoldable pub encodersOf : List ℕ → List Encoder
 encodersOf s = table columns.shotCount (λ k. encoderOf (item s columns.encoder k))
-
-unfoldable pub allFailuresOf : List ℕ → List ShotFailures
-allFailuresOf s = table columns.shotCount (λ k. failuresOf s (suc k))
 
 -- the columns of 20 shots
 unfoldable pub shotArraysOf : List ℕ → ShotArrays

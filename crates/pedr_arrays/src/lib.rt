@@ -16,7 +16,7 @@ ghost use mathlib.Core.Path.{_≡_};
 ghost use Rattle.octets.specs.Table.{natsAt};
 ghost use Rattle.layout.specs.Column.{values};
 ghost use Rattle.pedr_layout.specs.Layout as columns;
-ghost use Rattle.pedr_arrays.specs.Arrays.{classesOf, encodersOf, allFailuresOf, shotArraysOf, channelArraysOf, arraysOf, noArrays};
+ghost use Rattle.pedr_arrays.specs.Arrays.{classesOf, encodersOf, shotArraysOf, channelArraysOf, arraysOf, noArrays};
 
 // The class of one shot. A struct's array may hold structs, not enums.
 pub struct ShotClass {
@@ -107,24 +107,6 @@ fn read_encoders(bytes: &[u8]) -> [Encoder; SHOTS]
     encoders
 }
 
-fn read_all_failures(bytes: &[u8]) -> [ShotFailures; SHOTS]
-    ensures { λ r. ⌜ r ≡ allFailuresOf (now (bytes .entry)) ⌝ }
-{
-    let mut failures = [ShotFailures {
-        power: false,
-        energy: false,
-        range: false,
-        window: false,
-        comparison: false,
-    }; SHOTS];
-    let mut k = 0;
-    while k < SHOTS {
-        failures[k] = pedr_flags::read_failures(bytes, k + 1);
-        k = k + 1;
-    }
-    failures
-}
-
 fn read_shot_arrays(bytes: &[u8]) -> ShotArrays
     ensures { λ r. ⌜ r ≡ shotArraysOf (now (bytes .entry)) ⌝ }
 {
@@ -138,7 +120,7 @@ fn read_shot_arrays(bytes: &[u8]) -> ShotArrays
         laser_power: read_u16x20(bytes, LASER_POWER_AT),
         class: read_classes(bytes),
         encoder: read_encoders(bytes),
-        failures: read_all_failures(bytes),
+        failures: pedr_flags::read_all_failures(bytes),
     }
 }
 

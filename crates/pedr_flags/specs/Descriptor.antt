@@ -1,10 +1,11 @@
 -- Document 01, "PEDR record", Descriptor: a one is a failure.
-use Prim.Native.Nat.{ℕ, _+_, _-_, _/_, _%_}
+use Prim.Native.Nat.{ℕ, suc, _+_, _-_, _/_, _%_}
 use mathlib.Core.Bool.{Bool, _&&_}
 use mathlib.Core.List.{List}
 use lib.Dec.{eqb}
 use Rattle.numbers.specs.Bit.{bit}
 use Rattle.octets.specs.Refusal.{within}
+use Rattle.octets.specs.Table.{table}
 use Rattle.layout.specs.Column.{value}
 use Rattle.pedr_layout.specs.Layout.{shotCount, _u1, _u3}
 use Rattle.pedr_flags.specs.declared.Descriptor.{Descriptor}
@@ -45,3 +46,7 @@ failuresOf s k =
       window = failedAt s 63 k;
       comparison = failedAt s 83 k;
     }
+
+-- the tests of the 20 shots; shot k stands at index k - 1
+unfoldable pub allFailuresOf : List ℕ → List ShotFailures
+allFailuresOf s = table shotCount (λ j. failuresOf s (suc j))

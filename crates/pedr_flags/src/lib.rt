@@ -5,7 +5,7 @@ use pedr_layout::SHOTS;
 ghost use mathlib.Core.Path.{_≡_};
 ghost use Prim.Native.Nat.{_<_, _≤_};
 ghost use Rattle.pedr_flags.specs.Quality.{goodShot, goodCount, qualityOf};
-ghost use Rattle.pedr_flags.specs.Descriptor.{failed, failedAt, descriptorOf, failuresOf};
+ghost use Rattle.pedr_flags.specs.Descriptor.{failed, failedAt, descriptorOf, failuresOf, allFailuresOf};
 ghost use Rattle.pedr_flags.specs.Class.{classOf, classNumber};
 ghost use Rattle.pedr_flags.specs.Encoder.{encoderOf};
 
@@ -128,6 +128,25 @@ pub fn read_failures(bytes: &[u8], shot: usize) -> ShotFailures
         window: has_failed_at(bytes, 63, shot),
         comparison: has_failed_at(bytes, 83, shot),
     }
+}
+
+// The tests of the 20 shots by a record's bytes; shot s stands at index s - 1.
+pub fn read_all_failures(bytes: &[u8]) -> [ShotFailures; SHOTS]
+    ensures { λ r. ⌜ r ≡ allFailuresOf (now (bytes .entry)) ⌝ }
+{
+    let mut failures = [ShotFailures {
+        power: false,
+        energy: false,
+        range: false,
+        window: false,
+        comparison: false,
+    }; SHOTS];
+    let mut k = 0;
+    while k < SHOTS {
+        failures[k] = read_failures(bytes, k + 1);
+        k = k + 1;
+    }
+    failures
 }
 
 // The class of a number.

@@ -14,10 +14,10 @@ use Rattle.octets.proofs.Fill.{table-at}
 use Rattle.layout.specs.Column.{value, item}
 use Rattle.pedr_layout.specs.Layout.{qualityNumber, class, encoder}
 use Rattle.pedr_flags.specs.Quality.{qualityOf}
-use Rattle.pedr_flags.specs.Descriptor.{failuresOf}
+use Rattle.pedr_flags.specs.Descriptor.{failuresOf, allFailuresOf}
 use Rattle.pedr_flags.specs.Encoder.{encoderOf}
 use Rattle.pedr_fields.specs.Fields.{fieldsOf}
-use Rattle.pedr_arrays.specs.Arrays.{shotClass, noFailures, classesOf, encodersOf, allFailuresOf, shotArraysOf, arraysOf}
+use Rattle.pedr_arrays.specs.Arrays.{shotClass, noFailures, classesOf, encodersOf, shotArraysOf, arraysOf}
 use Rattle.pedr_shot.specs.Shot.{shotOf}
 use Rattle.pedr_laws.specs.Shots.{shotFrom}
 use Rattle.pedr_laws.proofs.shots_agree.Statement.{statement}

@@ -5,13 +5,12 @@ use mathlib.Core.List.{List}
 use denote.Ref.{now}
 use native.Mathlib.Omega.{arith}
 use native.Mathlib.Numerals.{add-one}
-use Rattle.pedr_flags.specs.Descriptor.{failuresOf}
+use Rattle.pedr_flags.specs.Descriptor.{failuresOf, allFailuresOf}
 use Rattle.pedr_flags.specs.declared.ShotFailures.{ShotFailures}
-use Rattle.pedr_arrays.specs.Arrays.{allFailuresOf}
 use Rattle.octets.proofs.Fill.{Filled, fill-more, fill-done}
 use borrow.Author.Needs.{needs}
-use Rattle.pedr_arrays.proofs.read_all_failures.Statement.{statement}
-use Rattle.pedr_arrays.proofs.read_all_failures.Tie as tie
+use Rattle.pedr_flags.proofs.read_all_failures.Statement.{statement}
+use Rattle.pedr_flags.proofs.read_all_failures.Tie as tie
 
 abbrev failures-at : List ℕ → ℕ → ShotFailures
 failures-at s k = failuresOf s (suc k)
