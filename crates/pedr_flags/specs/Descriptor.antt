@@ -1,10 +1,9 @@
 -- Document 01, "PEDR record", Descriptor: a one is a failure.
 use Prim.Native.Nat.{ℕ, suc, _+_, _-_, _/_, _%_}
-use mathlib.Core.Bool.{Bool, _&&_}
+use mathlib.Core.Bool.{Bool}
 use mathlib.Core.List.{List}
 use lib.Dec.{eqb}
 use Rattle.numbers.specs.Bit.{bit}
-use Rattle.octets.specs.Refusal.{within}
 use Rattle.octets.specs.Table.{table}
 use Rattle.layout.specs.Column.{value}
 use Rattle.pedr_layout.specs.Layout.{shotCount, _u1, _u3}
@@ -32,19 +31,15 @@ descriptorOf s =
       carried = value s (33 u3);
     }
 
--- a test of shot k (1 to 20), whose bits stand from first + 1 on
-abbrev pub failedAt : List ℕ → ℕ → ℕ → Bool
-failedAt s first k = within 1 shotCount k && failed s (first + k)
-
--- shot k is at 3 + k power, 23 + k energy, 43 + k range, 63 + k window, 83 + k comparison
+-- shot k, which is 1 to 20, is at 3 + k power, 23 + k energy, 43 + k range, 63 + k window, 83 + k comparison
 unfoldable pub failuresOf : List ℕ → ℕ → ShotFailures
 failuresOf s k =
     record {
-      power = failedAt s 3 k;
-      energy = failedAt s 23 k;
-      range = failedAt s 43 k;
-      window = failedAt s 63 k;
-      comparison = failedAt s 83 k;
+      power = failed s (3 + k);
+      energy = failed s (23 + k);
+      range = failed s (43 + k);
+      window = failed s (63 + k);
+      comparison = failed s (83 + k);
     }
 
 -- the tests of the 20 shots; shot k stands at index k - 1

@@ -1,18 +1,17 @@
 -- Document 01, "PEDR record", Quality: bytes 29-31 are one number, byte 32 a counter.
 use Prim.Native.Nat.{ℕ, _-_}
-use mathlib.Core.Bool.{Bool, _&&_}
+use mathlib.Core.Bool.{Bool}
 use mathlib.Core.List.{List}
 use lib.Dec.{eqb}
 use Rattle.numbers.specs.Bit.{bit, bitsSet}
 use Rattle.octets.specs.Bytes.{bitsAt}
-use Rattle.octets.specs.Refusal.{within}
 use Rattle.layout.specs.Column.{value}
-use Rattle.pedr_layout.specs.Layout.{shotCount, qualityNumber, qualityCounter}
+use Rattle.pedr_layout.specs.Layout.{qualityNumber, qualityCounter}
 use Rattle.pedr_flags.specs.declared.Quality.{Quality}
 
--- bit 20 - s is set for a good shot s (1 to 20)
+-- bit 20 - s is set for a good shot s, which is 1 to 20
 abbrev pub goodShot : ℕ → ℕ → Bool
-goodShot q s = within 1 shotCount s && eqb (bit q (20 - s)) 1
+goodShot q s = eqb (bit q (20 - s)) 1
 
 -- the number of ones in bits 0 to 19
 abbrev pub goodCount : ℕ → ℕ

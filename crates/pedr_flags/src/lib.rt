@@ -4,8 +4,10 @@ use pedr_layout::QUALITY_NUMBER_AT;
 use pedr_layout::SHOTS;
 ghost use mathlib.Core.Path.{_≡_};
 ghost use Prim.Native.Nat.{_<_, _≤_};
+ghost use Rattle.pedr_layout.specs.Layout.{shotCount};
 ghost use Rattle.pedr_flags.specs.Quality.{goodShot, goodCount, qualityOf};
-ghost use Rattle.pedr_flags.specs.Descriptor.{failed, failedAt, descriptorOf, failuresOf, allFailuresOf};
+ghost use Rattle.pedr_flags.specs.Descriptor.{failed, descriptorOf, failuresOf, allFailuresOf};
+ghost use Rattle.pedr_flags.specs.Shot.{flagsSaid, flagsDue};
 ghost use Rattle.pedr_flags.specs.Class.{classOf, classNumber};
 ghost use Rattle.pedr_flags.specs.Encoder.{encoderOf};
 
@@ -34,6 +36,18 @@ pub struct ShotFailures {
     pub comparison: bool,
 }
 
+// Whether a shot is good, and the tests that it failed.
+pub struct ShotFlags {
+    pub good: bool,
+    pub failures: ShotFailures,
+}
+
+// A refusal with its number, or the shot's flags.
+pub enum ShotFlagsAnswer {
+    Refused(u8),
+    Accepted(ShotFlags),
+}
+
 // What a shot met: false or no trigger (0), probable ground (1), or a number that is not assigned.
 pub enum Class {
     NoTrigger,
@@ -56,16 +70,11 @@ pub fn good_count(number: u32) -> u32
     u32::count_ones(number & 0xFFFFF)
 }
 
-// Whether a shot is good by a quality number; there is no shot but 1 to 20.
-pub fn is_good(number: u32, shot: usize) -> bool
+// Whether a shot is good by a quality number.
+fn is_good(number: u32, shot: usize) -> bool
+    requires { ⌜ (1 ≤ shot) × (shot ≤ shotCount) ⌝ }
     ensures { λ r. ⌜ r ≡ goodShot number shot ⌝ }
 {
-    if shot < 1 {
-        return false;
-    }
-    if SHOTS < shot {
-        return false;
-    }
     (number >> (20 - shot)) & 1 == 1
 }
 
@@ -103,30 +112,17 @@ pub fn read_descriptor(bytes: &[u8]) -> Descriptor
     }
 }
 
-// Whether a shot failed the test whose bits stand after bit first.
-fn has_failed_at(bytes: &[u8], first: usize, shot: usize) -> bool
-    requires { ⌜ first ≤ 83 ⌝ }
-    ensures { λ r. ⌜ r ≡ failedAt (now (bytes .entry)) first shot ⌝ }
-{
-    if shot < 1 {
-        return false;
-    }
-    if SHOTS < shot {
-        return false;
-    }
-    has_failed(bytes, first + shot)
-}
-
-// The tests of a shot by a record's bytes; there is no shot but 1 to 20.
-pub fn read_failures(bytes: &[u8], shot: usize) -> ShotFailures
+// The tests of a shot by a record's bytes.
+fn read_failures(bytes: &[u8], shot: usize) -> ShotFailures
+    requires { ⌜ (1 ≤ shot) × (shot ≤ shotCount) ⌝ }
     ensures { λ r. ⌜ r ≡ failuresOf (now (bytes .entry)) shot ⌝ }
 {
     ShotFailures {
-        power: has_failed_at(bytes, 3, shot),
-        energy: has_failed_at(bytes, 23, shot),
-        range: has_failed_at(bytes, 43, shot),
-        window: has_failed_at(bytes, 63, shot),
-        comparison: has_failed_at(bytes, 83, shot),
+        power: has_failed(bytes, 3 + shot),
+        energy: has_failed(bytes, 23 + shot),
+        range: has_failed(bytes, 43 + shot),
+        window: has_failed(bytes, 63 + shot),
+        comparison: has_failed(bytes, 83 + shot),
     }
 }
 
@@ -147,6 +143,22 @@ pub fn read_all_failures(bytes: &[u8]) -> [ShotFailures; SHOTS]
         k = k + 1;
     }
     failures
+}
+
+// Reads the flags of one shot. Any bytes, any shot; 16 is the only refusal.
+pub fn read_shot_flags(bytes: &[u8], shot: usize) -> ShotFlagsAnswer
+    ensures { λ r. ⌜ flagsSaid r ≡ flagsDue (now (bytes .entry)) shot ⌝ }
+{
+    if shot < 1 {
+        return ShotFlagsAnswer::Refused(16);
+    }
+    if SHOTS < shot {
+        return ShotFlagsAnswer::Refused(16);
+    }
+    ShotFlagsAnswer::Accepted(ShotFlags {
+        good: is_good(octets::u24_at(bytes, QUALITY_NUMBER_AT), shot),
+        failures: read_failures(bytes, shot),
+    })
 }
 
 // The class of a number.

@@ -1,13 +1,14 @@
 -- Document 01: the shot entry gives the record's refusals 11 to 15, then 16, else one shot's values.
 use Prim.Native.Nat.{ℕ, _-_}
 use mathlib.Core.List.{List}
-use Rattle.octets.specs.Refusal.{refuse_unless_else_, _then_, within, Said, refused, answered, say}
+use Rattle.octets.specs.Refusal.{_then_, Said, refused, answered, say}
 use Rattle.layout.specs.Column.{value, item}
 use Rattle.pedr_layout.specs.Layout as columns
 use Rattle.pedr_flags.specs.Quality.{goodShot}
 use Rattle.pedr_flags.specs.Descriptor.{failuresOf}
 use Rattle.pedr_flags.specs.Class.{classOf}
 use Rattle.pedr_flags.specs.Encoder.{encoderOf}
+use Rattle.pedr_flags.specs.Shot.{flagsRefusal}
 use Rattle.pedr_check.specs.Refusal.{recordRefusal}
 use Rattle.pedr_shot.specs.declared.ShotFields.{ShotFields}
 use Rattle.pedr_shot.specs.declared.ShotAnswer.{ShotAnswer}
@@ -32,7 +33,7 @@ shotOf s k =
 
 -- 11 to 15, then 16: shot not 1 to 20
 unfoldable pub shotRefusal : List ℕ → ℕ → ℕ
-shotRefusal s k = recordRefusal s then refuse 16 unless within 1 columns.shotCount k else 0
+shotRefusal s k = recordRefusal s then flagsRefusal k
 
 -- the number, or the shot, that each case of the answer stands for
 abbrev pub shotSaid : ShotAnswer → Said ShotFields

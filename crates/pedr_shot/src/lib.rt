@@ -2,22 +2,23 @@
 use pedr_flags::Class;
 use pedr_flags::Encoder;
 use pedr_flags::ShotFailures;
+use pedr_flags::ShotFlags;
+use pedr_flags::ShotFlagsAnswer;
 use pedr_layout::CLASS_AT;
 use pedr_layout::ENCODER_AT;
 use pedr_layout::ENERGY_AT;
 use pedr_layout::LASER_POWER_AT;
 use pedr_layout::OPTICAL_WIDTH_AT;
 use pedr_layout::PULSE_WIDTH_AT;
-use pedr_layout::QUALITY_NUMBER_AT;
 use pedr_layout::RADIUS_AT;
 use pedr_layout::REFLECTIVITY_AT;
-use pedr_layout::SHOTS;
 use pedr_layout::TRIGGER_CHANNEL_AT;
 ghost use mathlib.Core.Path.{_≡_};
 ghost use Prim.Native.Nat.{_≤_};
 ghost use Rattle.octets.specs.Refusal.{refusalIn};
 ghost use Rattle.pedr_layout.specs.Layout.{shotCount};
-ghost use Rattle.pedr_shot.specs.Shot.{shotOf, shotRefusal, shotSaid, shotDue};
+ghost use Rattle.pedr_flags.specs.Shot.{flagsOf};
+ghost use Rattle.pedr_shot.specs.Shot.{shotOf, shotSaid, shotDue};
 
 // A shot's value of each column of 20, whether it is good, and the tests that it failed.
 pub struct ShotFields {
@@ -40,28 +41,13 @@ pub enum ShotAnswer {
     Accepted(ShotFields),
 }
 
-// Refusals 11 to 16, or 0.
-fn refusal(bytes: &[u8], shot: usize) -> u8
-    ensures { λ r. ⌜ r ≡ shotRefusal (now (bytes .entry)) shot ⌝ }
-{
-    let n = pedr_check::record_refusal(bytes);
-    if n != 0 {
-        return n;
-    }
-    if shot < 1 {
-        return 16;
-    }
-    if SHOTS < shot {
-        return 16;
-    }
-    0
-}
-
-fn read_fields(bytes: &[u8], shot: usize) -> ShotFields
-    requires { ⌜ (1 ≤ shot) × (shot ≤ shotCount) ⌝ }
+// The fields of a shot, with its flags as they were read.
+fn read_fields(bytes: &[u8], shot: usize, flags: ShotFlags) -> ShotFields
+    requires { ⌜ (1 ≤ shot) × (shot ≤ shotCount) × (flags ≡ flagsOf (now bytes) shot) ⌝ }
     ensures { λ r. ⌜ r ≡ shotOf (now (bytes .entry)) shot ⌝ }
 {
     let k = shot - 1;
+    let failures = flags.failures;
     ShotFields {
         radius: octets::u32_at(bytes, RADIUS_AT + 4 * k),
         energy: octets::u16_at(bytes, ENERGY_AT + 2 * k),
@@ -72,8 +58,8 @@ fn read_fields(bytes: &[u8], shot: usize) -> ShotFields
         laser_power: octets::u16_at(bytes, LASER_POWER_AT + 2 * k),
         class: pedr_flags::class_of(octets::u16_at(bytes, CLASS_AT + 2 * k)),
         encoder: pedr_flags::encoder_of(octets::u8_at(bytes, ENCODER_AT + k)),
-        good: pedr_flags::is_good(octets::u24_at(bytes, QUALITY_NUMBER_AT), shot),
-        failures: pedr_flags::read_failures(bytes, shot),
+        good: flags.good,
+        failures,
     }
 }
 
@@ -81,11 +67,14 @@ fn read_fields(bytes: &[u8], shot: usize) -> ShotFields
 pub fn read_shot(bytes: &[u8], shot: usize) -> ShotAnswer
     ensures { λ r. ⌜ shotSaid r ≡ shotDue (now (bytes .entry)) shot ⌝ }
 {
-    let n = refusal(bytes, shot);
+    let n = pedr_check::record_refusal(bytes);
     if n != 0 {
         return ShotAnswer::Refused(n);
     }
-    ShotAnswer::Accepted(read_fields(bytes, shot))
+    match pedr_flags::read_shot_flags(bytes, shot) {
+        ShotFlagsAnswer::Refused(n) => ShotAnswer::Refused(n),
+        ShotFlagsAnswer::Accepted(flags) => ShotAnswer::Accepted(read_fields(bytes, shot, flags)),
+    }
 }
 
 // The refusal's number, or 0 for a shot that was read.

@@ -2,14 +2,12 @@
 use Prim.Native.Nat.{ℕ, suc, _+_, _-_, _*_, _<_}
 use mathlib.Core.Path.{_≡_, ap, _∙_}
 use mathlib.Core.List.{List}
-use mathlib.Core.Bool.{_&&_}
 use native.Mathlib.Omega.{arith}
 use lib.Dec.{eqb}
 use lib.ListN.{getD}
 use Rattle.numbers.proofs.Bits.{bit-mod}
 use Rattle.octets.specs.Bytes.{natAt}
 use Rattle.octets.specs.Table.{natsAt}
-use Rattle.octets.specs.Refusal.{within}
 use Rattle.octets.proofs.Fill.{table-at}
 use Rattle.layout.specs.Column.{value, item}
 use Rattle.pedr_layout.specs.Layout.{qualityNumber, class, encoder}
@@ -55,7 +53,7 @@ returns c = λ s k lo hi.
       «laser_power» = item-at s 344 2 (k - 1) h i;
       class = class-at s (k - 1) h i .class;
       encoder = encoder-at s (k - 1) h i;
-      good = within 1 20 k && eqb (b i) 1;
+      good = eqb (b i) 1;
       failures = (failures-at s (k - 1) h ∙ ap (failuresOf s) e) i;
     }
 
