@@ -1,6 +1,7 @@
 // The calls, one line each. Each but the opening by value goes by way of a lent session record to the call by value.
 use crate::build;
 use crate::cases;
+use crate::cases::Call;
 use crate::registers;
 use crate::registers::SIZE;
 use crate::show;
@@ -53,9 +54,9 @@ fn call_with(
 ) -> Offered {
     let threshold = registers::threshold(r);
     let sum_word = registers::sum_word(r);
-    match cases::call(row) {
-        1 => reorder_offer::open(store, packet, threshold, sum_word),
-        2 => reorder_local::open(session, store, packet, threshold, sum_word),
+    match cases::call_of(row) {
+        Call::Open => reorder_offer::open(store, packet, threshold, sum_word),
+        Call::OpenOr => reorder_local::open(session, store, packet, threshold, sum_word),
         _ => reorder_local::offer(session, store, packet),
     }
 }
@@ -139,10 +140,10 @@ fn call_with_output(row: u64, session: Session, store: &[u8], out: &mut [u8]) ->
     if out.len() < length {
         return session;
     }
-    if cases::call(row) == 4 {
-        return call_serve(session, store, &mut out[0..length]);
+    match cases::call_of(row) {
+        Call::Serve => call_serve(session, store, &mut out[0..length]),
+        _ => call_drain(budget(row), session, store, &mut out[0..length]),
     }
-    call_drain(budget(row), session, store, &mut out[0..length])
 }
 
 // What the output has before a call.
@@ -176,10 +177,9 @@ fn call_any(
     store: &mut [u8],
     out: &mut [u8],
 ) -> Session {
-    match cases::call(row) {
-        4 => call_with_output(row, session, store, out),
-        5 => call_with_output(row, session, store, out),
-        6 => call_pass(session),
+    match cases::call_of(row) {
+        Call::Serve | Call::Drain => call_with_output(row, session, store, out),
+        Call::Pass => call_pass(session),
         _ => call_packet(row, session, r, store),
     }
 }
@@ -200,19 +200,27 @@ fn call_with_store(
     call_any(row, session, r, &mut store[0..length], out)
 }
 
+// How the line of an opening starts: what it is told, and its packet.
+fn head_opening(name: &[u8], row: u64, r: &[u64; SIZE]) {
+    show::text(name);
+    show::named(b" threshold", registers::threshold(r) as u64);
+    show::entry(registers::sum_word(r) as u64);
+    build::show(row, r);
+}
+
 // What a line starts with: the call, and what it is told.
 fn head(row: u64, r: &[u64; SIZE]) {
-    let n = cases::call(row);
-    show::named(b"call", n);
-    if n < 3 {
-        show::named(b" threshold", registers::threshold(r) as u64);
-        show::entry(registers::sum_word(r) as u64);
-    }
-    if n < 4 {
-        build::show(row, r);
-    }
-    if n == 5 {
-        show::named(b" budget", budget(row) as u64);
+    match cases::call_of(row) {
+        Call::Open => head_opening(b"open", row, r),
+        Call::OpenOr => head_opening(b"open_or", row, r),
+        Call::Offer => {
+            show::text(b"offer");
+            build::show(row, r);
+        }
+        Call::Serve => show::text(b"serve"),
+        Call::Drain => show::named(b"drain budget", budget(row) as u64),
+        Call::Pass => show::text(b"pass"),
+        _ => {}
     }
 }
 

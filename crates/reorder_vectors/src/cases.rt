@@ -128,6 +128,37 @@ pub(crate) fn digit(row: u64, part: u64) -> u64 {
     row / part % 10
 }
 
-pub(crate) fn call(row: u64) -> u64 {
-    row / CALL
+// What a row does: a call, the four calls of EACH, or a change of what the next calls are given.
+pub enum Call {
+    Open,
+    OpenOr,
+    Offer,
+    Serve,
+    Drain,
+    Pass,
+    Each,
+    Set,
+    History,
+    Make,
+}
+
+// The numbers are those before CALL in the constants from OPEN to SET.
+pub(crate) fn call_of(row: u64) -> Call {
+    match row / CALL {
+        1 => Call::Open,
+        2 => Call::OpenOr,
+        3 => Call::Offer,
+        4 => Call::Serve,
+        5 => Call::Drain,
+        6 => Call::Pass,
+        7 => Call::Each,
+        8 => Call::Set,
+        9 => Call::History,
+        _ => Call::Make,
+    }
+}
+
+// The offer of a row's packet, moved on by k positions.
+pub(crate) fn offer_of(row: u64, k: u64) -> u64 {
+    OFFER - START + row % CALL + k % 10 * P
 }

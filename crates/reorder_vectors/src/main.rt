@@ -47,7 +47,6 @@ fn run_tables(store: &mut [u8], out: &mut [u8]) {
 fn main() {
     let mut store = [0; 34561];
     let mut out = [0; 34561];
-    show::text(b"call: 1 open, 2 open_or, 3 offer, 4 serve, 5 drain, 6 pass\n");
     show::text(b"threshold and sum word; packet: count, coarse time, bytes, damage\n");
     show::text(b"session: anchor count, anchor time, sum word, threshold, next, marks\n");
     show::text(b"bytes: digests of the store and the output\n");

@@ -1,6 +1,7 @@
 // What a row does.
 use crate::calls;
 use crate::cases;
+use crate::cases::Call;
 use crate::registers;
 use crate::registers::SIZE;
 use crate::show;
@@ -21,62 +22,44 @@ fn start(row: u64, r: &mut [u64; SIZE], store: &mut [u8]) {
     fill(store);
 }
 
-// A row that makes no call.
-fn change(row: u64, r: &mut [u64; SIZE], store: &mut [u8]) {
-    match cases::call(row) {
-        8 => registers::set(row, r),
-        9 => start(row, r, store),
-        _ => registers::make(row % cases::FIELD, r),
-    }
-}
-
-// How many calls a row makes.
-fn times(row: u64) -> u64 {
-    let n = cases::call(row);
-    if n < 3 {
-        return 1;
-    }
-    if n == 7 {
-        return 4;
-    }
-    cases::digit(row, cases::MORE) % 10 + 1
-}
-
-// The k-th call of a row: an offer's position grows; EACH passes, drains, serves and offers.
+// A row's call for the k-th time, from 0: an offer's position grows.
 fn again(row: u64, k: u64) -> u64 {
-    let n = cases::call(row);
-    if n == 3 {
-        return row % (4 * cases::CALL) + k % 10 * cases::P;
-    }
-    if n != 7 {
-        return row;
-    }
-    let at_store = cases::digit(row, cases::STORE) % 10 * cases::STORE;
-    match k {
-        0 => cases::PASS + at_store,
-        1 => cases::DRAIN + at_store + 32,
-        2 => cases::SERVE + at_store,
-        _ => row % cases::CALL + 3 * cases::CALL,
+    match cases::call_of(row) {
+        Call::Offer => cases::offer_of(row, k),
+        _ => row,
     }
 }
 
-// Each call of EACH is made from the same session.
 fn call_row(row: u64, r: &mut [u64; SIZE], store: &mut [u8], out: &mut [u8]) {
-    let n = times(row);
+    let n = cases::digit(row, cases::MORE) % 10 + 1;
     let mut k = 0;
     while k < n {
         let after = calls::call(again(row, k), r, store, out);
-        if cases::call(row) != 7 {
-            registers::keep(after, r);
-        }
+        registers::keep(after, r);
         k = k + 1;
     }
 }
 
+// The calls of EACH that take no packet.
+fn call_without_packet(row: u64, r: &[u64; SIZE], store: &mut [u8], out: &mut [u8]) {
+    let at_store = cases::digit(row, cases::STORE) % 10 * cases::STORE;
+    calls::call(cases::PASS + at_store, r, store, out);
+    calls::call(cases::DRAIN + at_store + 32, r, store, out);
+    calls::call(cases::SERVE + at_store, r, store, out);
+}
+
+// The calls of EACH. None keeps its session, so that each is made from the same one.
+fn call_each(row: u64, r: &[u64; SIZE], store: &mut [u8], out: &mut [u8]) {
+    call_without_packet(row, r, store, out);
+    calls::call(cases::offer_of(row, 0), r, store, out);
+}
+
 pub(crate) fn run(row: u64, r: &mut [u64; SIZE], store: &mut [u8], out: &mut [u8]) {
-    if cases::call(row) < 8 {
-        call_row(row, r, store, out);
-    } else {
-        change(row, r, store);
+    match cases::call_of(row) {
+        Call::Each => call_each(row, r, store, out),
+        Call::Set => registers::set(row, r),
+        Call::History => start(row, r, store),
+        Call::Make => registers::make(row % cases::FIELD, r),
+        _ => call_row(row, r, store, out),
     }
 }

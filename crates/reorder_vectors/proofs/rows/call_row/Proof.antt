@@ -12,8 +12,11 @@ Inv-loop row r₀ store₀ out₀ n k₀ r store out k = (k ≤ n) × ((length s
 abbrev μ-loop : tie.MeasureT-loop
 μ-loop row r₀ store₀ out₀ n k₀ r store out k = n - k
 
-times-requires : tie.Need-times-requires Inv-loop μ-loop
-times-requires c κs = search needs
+digit-requires : tie.Need-digit-requires Inv-loop μ-loop
+digit-requires c κs = search needs
+
+add-n : tie.Need-add-n Inv-loop μ-loop
+add-n c = search needs
 
 loop-holds : tie.Need-loop-holds Inv-loop μ-loop
 loop-holds c = search needs
@@ -23,9 +26,6 @@ again-requires c κs = search needs
 
 call-requires : tie.Need-call-requires Inv-loop μ-loop
 call-requires c κs = search needs
-
-call-requires-2 : tie.Need-call-requires-2 Inv-loop μ-loop
-call-requires-2 c κs = search needs
 
 keep-requires : tie.Need-keep-requires Inv-loop μ-loop
 keep-requires c κs = search needs
@@ -54,11 +54,11 @@ call-row-spec =
     (tie.spec
     Inv-loop
     μ-loop
-    times-requires
+    digit-requires
+    add-n
     loop-holds
     again-requires
     call-requires
-    call-requires-2
     keep-requires
     add-k
     loop-less
