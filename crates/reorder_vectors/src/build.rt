@@ -1,7 +1,7 @@
 // The packets of the rows. Their sums are worked out here, apart from the library.
 use crate::cases;
 use crate::registers;
-use crate::registers::SIZE;
+use crate::registers::Registers;
 use crate::show;
 
 // The free bytes, by a number that goes with the packet.
@@ -81,7 +81,7 @@ fn other(row: u64) -> u64 {
 }
 
 // A row's packet, and a byte more.
-pub(crate) fn packet_of(row: u64, r: &[u64; SIZE]) -> [u8; 1081] {
+pub(crate) fn packet_of(row: u64, r: Registers) -> [u8; 1081] {
     let count = registers::count(row, r);
     let time = registers::time(row, r);
     let word = registers::stored(r);
@@ -101,7 +101,7 @@ pub(crate) fn packet_of(row: u64, r: &[u64; SIZE]) -> [u8; 1081] {
 }
 
 // What a line says of the packet; its damage is the digit at WRONG, and ten times the one at AFTER.
-pub(crate) fn show(row: u64, r: &[u64; SIZE]) {
+pub(crate) fn show(row: u64, r: Registers) {
     show::named(b" packet", registers::count(row, r));
     show::entry(registers::time(row, r));
     show::entry(length(row) as u64);

@@ -2,8 +2,7 @@
 use crate::build;
 use crate::cases;
 use crate::cases::Call;
-use crate::registers;
-use crate::registers::SIZE;
+use crate::registers::Registers;
 use crate::show;
 use reorder_admission::OfferAnswer;
 use reorder_offer::Offered;
@@ -45,15 +44,10 @@ fn offered(answer: OfferAnswer) {
 }
 
 // An opening by value or over the session, or an offer.
-fn call_with(
-    row: u64,
-    session: Session,
-    r: &[u64; SIZE],
-    store: &mut [u8],
-    packet: &[u8],
-) -> Offered {
-    let threshold = registers::threshold(r);
-    let sum_word = registers::sum_word(r);
+fn call_with(row: u64, r: Registers, store: &mut [u8], packet: &[u8]) -> Offered {
+    let session = r.session;
+    let threshold = r.told_threshold;
+    let sum_word = r.told_word;
     match cases::call_of(row) {
         Call::Open => reorder_offer::open(store, packet, threshold, sum_word),
         Call::OpenOr => reorder_local::open(session, store, packet, threshold, sum_word),
@@ -62,13 +56,13 @@ fn call_with(
 }
 
 // The same with the row's packet. What a call leaves is the session that it returns.
-fn call_packet(row: u64, session: Session, r: &[u64; SIZE], store: &mut [u8]) -> Session {
+fn call_packet(row: u64, r: Registers, store: &mut [u8]) -> Session {
     let bytes = build::packet_of(row, r);
     let length = build::length(row);
     if 1081 < length {
-        return session;
+        return r.session;
     }
-    let made = call_with(row, session, r, store, &bytes[0..length]);
+    let made = call_with(row, r, store, &bytes[0..length]);
     let answer = made.answer;
     offered(answer);
     made.session
@@ -129,10 +123,6 @@ fn call_drain(budget: u32, session: Session, store: &[u8], out: &mut [u8]) -> Se
     made.session
 }
 
-fn budget(row: u64) -> u32 {
-    (row % cases::FIELD % 4294967296) as u32
-}
-
 // A serve or a drain, with as much of the output as it is to be given.
 fn call_with_output(row: u64, session: Session, store: &[u8], out: &mut [u8]) -> Session {
     let length = output_length(row);
@@ -142,7 +132,7 @@ fn call_with_output(row: u64, session: Session, store: &[u8], out: &mut [u8]) ->
     }
     match cases::call_of(row) {
         Call::Serve => call_serve(session, store, &mut out[0..length]),
-        _ => call_drain(budget(row), session, store, &mut out[0..length]),
+        _ => call_drain(cases::number(row), session, store, &mut out[0..length]),
     }
 }
 
@@ -170,46 +160,35 @@ fn call_pass(session: Session) -> Session {
 }
 
 // A call of any kind. What it leaves is the session that it returns.
-fn call_any(
-    row: u64,
-    session: Session,
-    r: &[u64; SIZE],
-    store: &mut [u8],
-    out: &mut [u8],
-) -> Session {
+fn call_any(row: u64, r: Registers, store: &mut [u8], out: &mut [u8]) -> Session {
+    let session = r.session;
     match cases::call_of(row) {
         Call::Serve | Call::Drain => call_with_output(row, session, store, out),
         Call::Pass => call_pass(session),
-        _ => call_packet(row, session, r, store),
+        _ => call_packet(row, r, store),
     }
 }
 
 // The same with as much of the store as it is to be given.
-fn call_with_store(
-    row: u64,
-    session: Session,
-    r: &[u64; SIZE],
-    store: &mut [u8],
-    out: &mut [u8],
-) -> Session {
+fn call_with_store(row: u64, r: Registers, store: &mut [u8], out: &mut [u8]) -> Session {
     let length = store_length(row);
     show::named(b" store", length as u64);
     if store.len() < length {
-        return session;
+        return r.session;
     }
-    call_any(row, session, r, &mut store[0..length], out)
+    call_any(row, r, &mut store[0..length], out)
 }
 
 // How the line of an opening starts: what it is told, and its packet.
-fn head_opening(name: &[u8], row: u64, r: &[u64; SIZE]) {
+fn head_opening(name: &[u8], row: u64, r: Registers) {
     show::text(name);
-    show::named(b" threshold", registers::threshold(r) as u64);
-    show::entry(registers::sum_word(r) as u64);
+    show::named(b" threshold", r.told_threshold as u64);
+    show::entry(r.told_word as u64);
     build::show(row, r);
 }
 
 // What a line starts with: the call, and what it is told.
-fn head(row: u64, r: &[u64; SIZE]) {
+fn head(row: u64, r: Registers) {
     match cases::call_of(row) {
         Call::Open => head_opening(b"open", row, r),
         Call::OpenOr => head_opening(b"open_or", row, r),
@@ -218,7 +197,7 @@ fn head(row: u64, r: &[u64; SIZE]) {
             build::show(row, r);
         }
         Call::Serve => show::text(b"serve"),
-        Call::Drain => show::named(b"drain budget", budget(row) as u64),
+        Call::Drain => show::named(b"drain budget", cases::number(row) as u64),
         Call::Pass => show::text(b"pass"),
         _ => {}
     }
@@ -233,10 +212,10 @@ fn tail(session: Session, store: &[u8], out: &[u8]) {
 }
 
 // A call, one line of it, and the session that it leaves.
-pub(crate) fn call(row: u64, r: &[u64; SIZE], store: &mut [u8], out: &mut [u8]) -> Session {
+pub(crate) fn call(row: u64, r: Registers, store: &mut [u8], out: &mut [u8]) -> Session {
     head(row, r);
     blank(out);
-    let after = call_with_store(row, registers::session(r), r, store, out);
+    let after = call_with_store(row, r, store, out);
     tail(after, store, out);
     after
 }

@@ -128,6 +128,11 @@ pub(crate) fn digit(row: u64, part: u64) -> u64 {
     row / part % 10
 }
 
+// The number that a row ends with: a drain's budget, the next of MAKE, a history's number, or what a register gets.
+pub(crate) fn number(row: u64) -> u32 {
+    (row % FIELD % 4_294_967_296) as u32
+}
+
 // What a row does: a call, the four calls of EACH, or a change of what the next calls are given.
 pub enum Call {
     Open,

@@ -18,7 +18,7 @@ fn run_all(table: &[u64], store: &mut [u8], out: &mut [u8]) {
     let mut r = registers::fresh();
     let mut i = 0;
     while i < table.len() {
-        rows::run(table[i], &mut r, store, out);
+        r = rows::run(table[i], r, store, out);
         i = i + 1;
     }
 }

@@ -3,7 +3,7 @@ use crate::calls;
 use crate::cases;
 use crate::cases::Call;
 use crate::registers;
-use crate::registers::SIZE;
+use crate::registers::Registers;
 use crate::show;
 
 // The store at the start of a history.
@@ -15,11 +15,11 @@ fn fill(store: &mut [u8]) {
     }
 }
 
-fn start(row: u64, r: &mut [u64; SIZE], store: &mut [u8]) {
-    show::named(b"history", row % cases::FIELD);
+fn start(row: u64, store: &mut [u8]) -> Registers {
+    show::named(b"history", cases::number(row) as u64);
     show::text(b"\n");
-    *r = registers::fresh();
     fill(store);
+    registers::fresh()
 }
 
 // A row's call for the k-th time, from 0: an offer's position grows.
@@ -30,18 +30,19 @@ fn again(row: u64, k: u64) -> u64 {
     }
 }
 
-fn call_row(row: u64, r: &mut [u64; SIZE], store: &mut [u8], out: &mut [u8]) {
+fn call_row(row: u64, mut r: Registers, store: &mut [u8], out: &mut [u8]) -> Registers {
     let n = cases::digit(row, cases::MORE) % 10 + 1;
     let mut k = 0;
     while k < n {
         let after = calls::call(again(row, k), r, store, out);
-        registers::keep(after, r);
+        r.session = after;
         k = k + 1;
     }
+    r
 }
 
 // The calls of EACH that take no packet.
-fn call_without_packet(row: u64, r: &[u64; SIZE], store: &mut [u8], out: &mut [u8]) {
+fn call_without_packet(row: u64, r: Registers, store: &mut [u8], out: &mut [u8]) {
     let at_store = cases::digit(row, cases::STORE) % 10 * cases::STORE;
     calls::call(cases::PASS + at_store, r, store, out);
     calls::call(cases::DRAIN + at_store + 32, r, store, out);
@@ -49,17 +50,20 @@ fn call_without_packet(row: u64, r: &[u64; SIZE], store: &mut [u8], out: &mut [u
 }
 
 // The calls of EACH. None keeps its session, so that each is made from the same one.
-fn call_each(row: u64, r: &[u64; SIZE], store: &mut [u8], out: &mut [u8]) {
+fn call_each(row: u64, r: Registers, store: &mut [u8], out: &mut [u8]) {
     call_without_packet(row, r, store, out);
     calls::call(cases::offer_of(row, 0), r, store, out);
 }
 
-pub(crate) fn run(row: u64, r: &mut [u64; SIZE], store: &mut [u8], out: &mut [u8]) {
+pub(crate) fn run(row: u64, r: Registers, store: &mut [u8], out: &mut [u8]) -> Registers {
     match cases::call_of(row) {
-        Call::Each => call_each(row, r, store, out),
+        Call::Each => {
+            call_each(row, r, store, out);
+            r
+        }
         Call::Set => registers::set(row, r),
-        Call::History => start(row, r, store),
-        Call::Make => registers::make(row % cases::FIELD, r),
+        Call::History => start(row, store),
+        Call::Make => registers::make(row, r),
         _ => call_row(row, r, store, out),
     }
 }

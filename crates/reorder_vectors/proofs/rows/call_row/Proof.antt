@@ -27,9 +27,6 @@ again-requires c κs = search needs
 call-requires : tie.Need-call-requires Inv-loop μ-loop
 call-requires c κs = search needs
 
-keep-requires : tie.Need-keep-requires Inv-loop μ-loop
-keep-requires c κs = search needs
-
 add-k : tie.Need-add-k Inv-loop μ-loop
 add-k c = search needs
 
@@ -59,7 +56,6 @@ call-row-spec =
     loop-holds
     again-requires
     call-requires
-    keep-requires
     add-k
     loop-less
     loop-again
