@@ -9,9 +9,6 @@ use Rattle.aedr.proofs.Pieces.{answer-short, answer-packet}
 use Rattle.aedr.proofs.answer.Statement.{statement}
 use Rattle.aedr.proofs.answer.Tie as tie
 
-returns : tie.Need-returns
-returns c = answer-short (now (c .before .before .args .piece)) (omega arith)
-
 returns-2 : tie.Need-returns-2
 returns-2 c =
     let p = now (c .before .before .before .before .args .piece) in answer-packet p (length p - headerSize) _ (omega arith) (c .packet-refusal .ensures)
@@ -20,7 +17,7 @@ pub answer-spec : {M : Type 1} → statement M
 answer-spec =
     tie.close
     (tie.spec
-    returns
+    (λ c. answer-short (now (c .before .before .args .piece)) (omega arith))
     (λ c. search needs)
     (λ c. search needs)
     (λ c. search needs)

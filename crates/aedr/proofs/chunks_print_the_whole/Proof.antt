@@ -3,8 +3,5 @@ use Rattle.aedr.proofs.Whole.{chunks-whole}
 use Rattle.aedr.proofs.chunks_print_the_whole.Statement.{statement}
 use Rattle.aedr.proofs.chunks_print_the_whole.Tie as tie
 
-returns : tie.Need-returns
-returns c = chunks-whole
-
 pub chunks-print-the-whole-spec : {M : Type 1} → statement M
-chunks-print-the-whole-spec = tie.close (tie.spec returns)
+chunks-print-the-whole-spec = tie.close (tie.spec (λ c. chunks-whole))

@@ -17,9 +17,6 @@ Inv-loop bytes n sum₀ i₀ sum i =
 abbrev μ-loop : tie.MeasureT-loop
 μ-loop bytes n sum₀ i₀ sum i = n - i
 
-returns : tie.Need-returns Inv-loop μ-loop
-returns c = sum-none (now (c .before .before .args .bytes)) (c .if1 .taken)
-
 loop-holds : tie.Need-loop-holds Inv-loop μ-loop
 loop-holds c =
     let s = now (c .before .before .before .before .args .bytes) in (
@@ -55,7 +52,7 @@ words-sum-spec =
     (tie.spec
     Inv-loop
     μ-loop
-    returns
+    (λ c. sum-none (now (c .before .before .args .bytes)) (c .if1 .taken))
     (λ c. search needs)
     (λ c κs. search needs)
     (λ c. search needs)

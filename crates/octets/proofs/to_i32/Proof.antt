@@ -6,9 +6,6 @@ use borrow.Author.Needs.{needs}
 use Rattle.octets.proofs.to_i32.Statement.{statement}
 use Rattle.octets.proofs.to_i32.Tie as tie
 
-returns : tie.Need-returns
-returns c = simp (lt-ltb _ _ (c .if1 .taken))
-
 returns-2 : tie.Need-returns-2
 returns-2 c =
     let x = c .before .args .x in
@@ -16,4 +13,4 @@ returns-2 c =
 
 pub to-i32-spec : {M : Type 1} → statement M
 to-i32-spec =
-    tie.close (tie.spec (λ c. search needs) (λ c. search needs) (λ c. search needs) (λ c. lower-fits w32 (c .before .args .x) (c .before .fits .x) (c .if1 .left)) returns returns-2)
+    tie.close (tie.spec (λ c. search needs) (λ c. search needs) (λ c. search needs) (λ c. lower-fits w32 (c .before .args .x) (c .before .fits .x) (c .if1 .left)) (λ c. simp (lt-ltb _ _ (c .if1 .taken))) returns-2)

@@ -2,8 +2,5 @@ use Rattle.packet_laws.proofs.ReadBack.{read-back}
 use Rattle.packet_laws.proofs.reads_back.Statement.{statement}
 use Rattle.packet_laws.proofs.reads_back.Tie as tie
 
-returns : tie.Need-returns
-returns c = read-back
-
 pub reads-back-spec : {M : Type 1} → statement M
-reads-back-spec = tie.close (tie.spec returns)
+reads-back-spec = tie.close (tie.spec (λ c. read-back))

@@ -2,8 +2,5 @@ use Rattle.packet_laws.proofs.WriteBack.{write-back}
 use Rattle.packet_laws.proofs.writes_back.Statement.{statement}
 use Rattle.packet_laws.proofs.writes_back.Tie as tie
 
-returns : tie.Need-returns
-returns c = write-back
-
 pub writes-back-spec : {M : Type 1} → statement M
-writes-back-spec = tie.close (tie.spec returns)
+writes-back-spec = tie.close (tie.spec (λ c. write-back))

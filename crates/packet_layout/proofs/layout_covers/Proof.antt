@@ -5,8 +5,5 @@ use Rattle.packet_layout.specs.Layout.{packetSize, packetColumns}
 use Rattle.packet_layout.proofs.layout_covers.Statement.{statement}
 use Rattle.packet_layout.proofs.layout_covers.Tie as tie
 
-returns : tie.Need-returns
-returns c = covers packetSize packetColumns refl
-
 pub layout-covers-spec : {M : Type 1} → statement M
-layout-covers-spec = tie.close (tie.spec returns)
+layout-covers-spec = tie.close (tie.spec (λ c. covers packetSize packetColumns refl))

@@ -5,11 +5,5 @@ use borrow.Author.Needs.{needs}
 use Rattle.packet_writer.proofs.partner.Statement.{statement}
 use Rattle.packet_writer.proofs.partner.Tie as tie
 
-returns : tie.Need-returns
-returns c = (simp (eq-eqb _ _ (c .if1 .taken)) (omega arith), omega arith)
-
-returns-2 : tie.Need-returns-2
-returns-2 c = (simp (ne-eqb _ _ (c .if1 .left)) (omega arith), omega arith)
-
 pub partner-spec : {M : Type 1} → statement M
-partner-spec = tie.close (tie.spec (λ c. search needs) (λ c. search needs) returns returns-2)
+partner-spec = tie.close (tie.spec (λ c. search needs) (λ c. search needs) (λ c. (simp (eq-eqb _ _ (c .if1 .taken)) (omega arith), omega arith)) (λ c. (simp (ne-eqb _ _ (c .if1 .left)) (omega arith), omega arith)))

@@ -3,8 +3,5 @@ use Rattle.numbers.proofs.Bits.{and-three}
 use Rattle.pedr_flags.proofs.encoder_of.Statement.{statement}
 use Rattle.pedr_flags.proofs.encoder_of.Tie as tie
 
-returns : tie.Need-returns
-returns c = simp and-three
-
 pub encoder-of-spec : {M : Type 1} → statement M
-encoder-of-spec = tie.close (tie.spec returns)
+encoder-of-spec = tie.close (tie.spec (λ c. simp and-three))

@@ -6,8 +6,5 @@ use Rattle.numbers.proofs.Bits.{ones-bits}
 use Rattle.pedr_flags.proofs.good_count.Statement.{statement}
 use Rattle.pedr_flags.proofs.good_count.Tie as tie
 
-returns : tie.Need-returns
-returns c = ap ones (and-mask (c .args .number) 20) ∙ ones-bits (c .args .number) 20
-
 pub good-count-spec : {M : Type 1} → statement M
-good-count-spec = tie.close (tie.spec returns)
+good-count-spec = tie.close (tie.spec (λ c. ap ones (and-mask (c .args .number) 20) ∙ ones-bits (c .args .number) 20))

@@ -4,9 +4,6 @@ use borrow.Author.Needs.{needs}
 use Rattle.pedr_flags.proofs.has_failed.Statement.{statement}
 use Rattle.pedr_flags.proofs.has_failed.Tie as tie
 
-returns : tie.Need-returns
-returns c = simp (and-one, c .u8-at .ensures)
-
 pub has-failed-spec : {M : Type 1} → statement M
 has-failed-spec =
-    tie.close (tie.spec (λ c. search needs) (λ c. search needs) (λ c κs. search needs) (λ c. search needs) (λ c. search needs) returns)
+    tie.close (tie.spec (λ c. search needs) (λ c. search needs) (λ c κs. search needs) (λ c. search needs) (λ c. search needs) (λ c. simp (and-one, c .u8-at .ensures)))

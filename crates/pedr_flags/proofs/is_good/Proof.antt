@@ -4,8 +4,5 @@ use borrow.Author.Needs.{needs}
 use Rattle.pedr_flags.proofs.is_good.Statement.{statement}
 use Rattle.pedr_flags.proofs.is_good.Tie as tie
 
-returns : tie.Need-returns
-returns c = simp and-one
-
 pub is-good-spec : {M : Type 1} → statement M
-is-good-spec = tie.close (tie.spec (λ c. search needs) (λ c. search needs) (λ c. search needs) returns)
+is-good-spec = tie.close (tie.spec (λ c. search needs) (λ c. search needs) (λ c. search needs) (λ c. simp and-one))

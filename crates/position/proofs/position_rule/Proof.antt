@@ -3,8 +3,5 @@ use Rattle.position.proofs.Rule.{rule}
 use Rattle.position.proofs.position_rule.Statement.{statement}
 use Rattle.position.proofs.position_rule.Tie as tie
 
-returns : tie.Need-returns
-returns c = rule
-
 pub position-rule-spec : {M : Type 1} → statement M
-position-rule-spec = tie.close (tie.spec returns)
+position-rule-spec = tie.close (tie.spec (λ c. rule))

@@ -6,11 +6,5 @@ use Rattle.program_io.specs.Next.{chunksMost}
 use Rattle.program_io.proofs.after_full.Statement.{statement}
 use Rattle.program_io.proofs.after_full.Tie as tie
 
-returns : tie.Need-returns
-returns c = rw (lt-ltb (c .before .args .full) (chunksMost - 1) (c .if1 .taken))
-
-returns-2 : tie.Need-returns-2
-returns-2 c = rw (le-ltb (c .before .args .full) (chunksMost - 1) (c .if1 .left))
-
 pub after-full-spec : {M : Type 1} → statement M
-after-full-spec = tie.close (tie.spec (λ c. search needs) returns returns-2)
+after-full-spec = tie.close (tie.spec (λ c. search needs) (λ c. rw (lt-ltb (c .before .args .full) (chunksMost - 1) (c .if1 .taken))) (λ c. rw (le-ltb (c .before .args .full) (chunksMost - 1) (c .if1 .left))))

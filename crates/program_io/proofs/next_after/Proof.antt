@@ -3,9 +3,6 @@ use borrow.Author.Needs.{needs}
 use Rattle.program_io.proofs.next_after.Statement.{statement}
 use Rattle.program_io.proofs.next_after.Tie as tie
 
-returns-3 : tie.Need-returns-3
-returns-3 c = cc
-
 pub next-after-spec : {M : Type 1} → statement M
 next-after-spec =
     tie.close
@@ -18,5 +15,5 @@ next-after-spec =
     (λ c κs. search needs)
     (λ c. search needs)
     (λ c. search needs)
-    returns-3
+    (λ c. cc)
     (λ c. search needs))

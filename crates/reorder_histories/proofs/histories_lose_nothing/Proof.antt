@@ -4,8 +4,5 @@ use Rattle.reorder_histories.proofs.Made as Made
 use Rattle.reorder_histories.proofs.histories_lose_nothing.Statement.{statement}
 use Rattle.reorder_histories.proofs.histories_lose_nothing.Tie as tie
 
-returns : tie.Need-returns
-returns c = Made.histories-lose-nothing higher-threshold-loses-nothing
-
 pub histories-lose-nothing-spec : {M : Type 1} → statement M
-histories-lose-nothing-spec = tie.close (tie.spec returns)
+histories-lose-nothing-spec = tie.close (tie.spec (λ c. Made.histories-lose-nothing higher-threshold-loses-nothing))

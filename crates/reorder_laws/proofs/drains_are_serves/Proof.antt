@@ -3,8 +3,5 @@ use Rattle.reorder_laws.proofs.Drains.{drains-are-serves}
 use Rattle.reorder_laws.proofs.drains_are_serves.Statement.{statement}
 use Rattle.reorder_laws.proofs.drains_are_serves.Tie as tie
 
-returns : tie.Need-returns
-returns c = drains-are-serves
-
 pub drains-are-serves-spec : {M : Type 1} → statement M
-drains-are-serves-spec = tie.close (tie.spec returns)
+drains-are-serves-spec = tie.close (tie.spec (λ c. drains-are-serves))

@@ -5,8 +5,5 @@ use Rattle.reorder_offer.specs.Opening.{noSession}
 use Rattle.reorder_offer.proofs.no_session.Statement.{statement}
 use Rattle.reorder_offer.proofs.no_session.Tie as tie
 
-returns : tie.Need-returns
-returns c = λ i. withWindow noSession (c .none .ensures i)
-
 pub no-session-spec : {M : Type 1} → statement M
-no-session-spec = tie.close (tie.spec (λ c κs. search needs) returns)
+no-session-spec = tie.close (tie.spec (λ c κs. search needs) (λ c. λ i. withWindow noSession (c .none .ensures i)))

@@ -6,8 +6,5 @@ use borrow.Author.Needs.{needs}
 use Rattle.window.proofs.bit_of.Statement.{statement}
 use Rattle.window.proofs.bit_of.Tie as tie
 
-returns : tie.Need-returns
-returns c = one-shl 32 (c .args .p % 32) (omega arith)
-
 pub bit-of-spec : {M : Type 1} → statement M
-bit-of-spec = tie.close (tie.spec (λ c. search needs) returns)
+bit-of-spec = tie.close (tie.spec (λ c. search needs) (λ c. one-shl 32 (c .args .p % 32) (omega arith)))

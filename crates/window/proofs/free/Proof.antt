@@ -3,8 +3,5 @@ use borrow.Author.Needs.{needs}
 use Rattle.window.proofs.free.Statement.{statement}
 use Rattle.window.proofs.free.Tie as tie
 
-returns : tie.Need-returns
-returns c = cc
-
 pub free-spec : {M : Type 1} → statement M
-free-spec = tie.close (tie.spec (λ c κs. search needs) (λ c κs. search needs) returns)
+free-spec = tie.close (tie.spec (λ c κs. search needs) (λ c κs. search needs) (λ c. cc))

@@ -9,16 +9,10 @@ use borrow.Author.Needs.{needs}
 use Rattle.window.proofs.is_held.Statement.{statement}
 use Rattle.window.proofs.is_held.Tie as tie
 
-returns : tie.Need-returns
-returns c = sym (held-below _ _ (c .if1 .taken))
-
-returns-2 : tie.Need-returns-2
-returns-2 c = sym (held-above _ _ (omega arith))
-
 returns-3 : tie.Need-returns-3
 returns-3 c =
     let a = c .before .before .before .before .before .args in
     ap (λ (n : ℕ). eqb n 1) (and-one (a .window .marks / 2 ^ (a .p % 32))) ∙ sym (held-inside (a .window) (a .p) (omega arith) (omega arith))
 
 pub is-held-spec : {M : Type 1} → statement M
-is-held-spec = tie.close (tie.spec returns returns-2 (λ c. search needs) returns-3)
+is-held-spec = tie.close (tie.spec (λ c. sym (held-below _ _ (c .if1 .taken))) (λ c. sym (held-above _ _ (omega arith))) (λ c. search needs) returns-3)

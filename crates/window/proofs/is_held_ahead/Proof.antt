@@ -11,8 +11,5 @@ use Rattle.window.proofs.is_held_ahead.Tie as tie
 returns : tie.Need-returns
 returns c = sym (none-held (c .before .args .window) _ (λ p e l. omega (arith, held-most (c .before .args .window) p e)))
 
-returns-2 : tie.Need-returns-2
-returns-2 c = by-leading-zeros _ _ (c .rotated .ok) (c .rotated .ensures) _ (omega arith)
-
 pub is-held-ahead-spec : {M : Type 1} → statement M
-is-held-ahead-spec = tie.close (tie.spec returns (λ c κs. search needs) (λ c. omega (arith, leading-le 32 (c .rotated .result))) returns-2)
+is-held-ahead-spec = tie.close (tie.spec returns (λ c κs. search needs) (λ c. omega (arith, leading-le 32 (c .rotated .result))) (λ c. by-leading-zeros _ _ (c .rotated .ok) (c .rotated .ensures) _ (omega arith)))

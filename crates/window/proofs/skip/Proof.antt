@@ -3,8 +3,5 @@ use borrow.Author.Needs.{needs}
 use Rattle.window.proofs.skip.Statement.{statement}
 use Rattle.window.proofs.skip.Tie as tie
 
-returns : tie.Need-returns
-returns c = cc
-
 pub skip-spec : {M : Type 1} → statement M
-skip-spec = tie.close (tie.spec (λ c κs. search needs) returns)
+skip-spec = tie.close (tie.spec (λ c κs. search needs) (λ c. cc))

@@ -12,9 +12,6 @@ Inv-loop row sum-word out₀ sum b₀ out b = (b ≤ length out₀) × (length o
 abbrev μ-loop : tie.MeasureT-loop
 μ-loop row sum-word out₀ sum b₀ out b = length out₀ - b
 
-loop-again : tie.Need-loop-again Inv-loop μ-loop
-loop-again c = (search needs, rw length-set (c .before .before .loop .inv .1))
-
 pub packet-of-spec : {M : Type 1} → statement M
 packet-of-spec =
     tie.close
@@ -27,6 +24,6 @@ packet-of-spec =
     (λ c. search needs)
     (λ c. search needs)
     (λ c. search needs)
-    loop-again
+    (λ c. (search needs, rw length-set (c .before .before .loop .inv .1)))
     (λ c. search needs)
     (λ c. search needs))

@@ -12,9 +12,6 @@ Inv-loop out₀ k₀ out k = (k ≤ length out₀) × (length out ≡ length out
 abbrev μ-loop : tie.MeasureT-loop
 μ-loop out₀ k₀ out k = length out₀ - k
 
-loop-again : tie.Need-loop-again Inv-loop μ-loop
-loop-again c = (search needs, rw length-set (c .before .loop .inv .1))
-
 pub blank-spec : {M : Type 1} → statement M
 blank-spec =
     tie.close
@@ -25,6 +22,6 @@ blank-spec =
     (λ c. search needs)
     (λ c. search needs)
     (λ c. search needs)
-    loop-again
+    (λ c. (search needs, rw length-set (c .before .loop .inv .1)))
     (λ c. search needs)
     (λ c. search needs))

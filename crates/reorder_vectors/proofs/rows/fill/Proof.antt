@@ -12,9 +12,6 @@ Inv-loop store₀ k₀ store k = (k ≤ length store₀) × (length store ≡ le
 abbrev μ-loop : tie.MeasureT-loop
 μ-loop store₀ k₀ store k = length store₀ - k
 
-loop-again : tie.Need-loop-again Inv-loop μ-loop
-loop-again c = (search needs, rw length-set (c .before .loop .inv .1))
-
 pub fill-spec : {M : Type 1} → statement M
 fill-spec =
     tie.close
@@ -28,6 +25,6 @@ fill-spec =
     (λ c. search needs)
     (λ c. search needs)
     (λ c. search needs)
-    loop-again
+    (λ c. (search needs, rw length-set (c .before .loop .inv .1)))
     (λ c. search needs)
     (λ c. search needs))
