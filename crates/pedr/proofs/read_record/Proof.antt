@@ -14,6 +14,12 @@ returns c =
     let e = c .before .before .record-refusal .ensures in
     (say-refused _ _ (fieldsOf s) e (c .before .if1 .taken), c .no-arrays .ensures ∙ after-refused _ _ (arraysOf s) noArrays e (c .before .if1 .taken))
 
+read-fields-requires : tie.Need-read-fields-requires
+read-fields-requires c κs = search needs
+
+read-arrays-requires : tie.Need-read-arrays-requires
+read-arrays-requires c κs = search needs
+
 returns-2 : tie.Need-returns-2
 returns-2 c =
     let s = now (c .before .before .before .before .before .args .bytes) in
@@ -27,6 +33,6 @@ read-record-spec =
     (λ c κs. search needs)
     (λ c κs. search needs)
     returns
-    (λ c κs. search needs)
-    (λ c κs. search needs)
+    read-fields-requires
+    read-arrays-requires
     returns-2)
