@@ -7,8 +7,5 @@ use borrow.Author.Needs.{needs}
 use Rattle.octets.proofs.i16_at.Statement.{statement}
 use Rattle.octets.proofs.i16_at.Tie as tie
 
-returns : tie.Need-returns
-returns c = held w16 (c .to-i16 .ok) (c .to-i16 .ensures ∙ ap (signed 16) (c .before .u16-at .ensures))
-
 pub i16-at-spec : {M : Type 1} → statement M
-i16-at-spec = tie.close (tie.spec (λ c κs. search needs) (λ c κs. search needs) returns)
+i16-at-spec = tie.close (tie.spec (λ c κs. search needs) (λ c κs. search needs) (λ c. held w16 (c .to-i16 .ok) (c .to-i16 .ensures ∙ ap (signed 16) (c .before .u16-at .ensures))))

@@ -7,8 +7,5 @@ use borrow.Author.Needs.{needs}
 use Rattle.octets.proofs.i32_at.Statement.{statement}
 use Rattle.octets.proofs.i32_at.Tie as tie
 
-returns : tie.Need-returns
-returns c = held w32 (c .to-i32 .ok) (c .to-i32 .ensures ∙ ap (signed 32) (c .before .u32-at .ensures))
-
 pub i32-at-spec : {M : Type 1} → statement M
-i32-at-spec = tie.close (tie.spec (λ c κs. search needs) (λ c κs. search needs) returns)
+i32-at-spec = tie.close (tie.spec (λ c κs. search needs) (λ c κs. search needs) (λ c. held w32 (c .to-i32 .ok) (c .to-i32 .ensures ∙ ap (signed 32) (c .before .u32-at .ensures))))

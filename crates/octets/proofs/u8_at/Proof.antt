@@ -6,8 +6,5 @@ use borrow.Author.Needs.{needs}
 use Rattle.octets.proofs.u8_at.Statement.{statement}
 use Rattle.octets.proofs.u8_at.Tie as tie
 
-returns-2 : tie.Need-returns-2
-returns-2 c = let a = c .before .args in sym (List·getD-eq-default (now (a .bytes)) 0 (c .if1 .left))
-
 pub u8-at-spec : {M : Type 1} → statement M
-u8-at-spec = tie.close (tie.spec (λ c. search needs) (λ c. search needs) returns-2)
+u8-at-spec = tie.close (tie.spec (λ c. search needs) (λ c. search needs) (λ c. let a = c .before .args in sym (List·getD-eq-default (now (a .bytes)) 0 (c .if1 .left))))

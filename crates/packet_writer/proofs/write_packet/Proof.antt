@@ -20,9 +20,6 @@ returns c =
 may : (c : tie.Else1) → let a = c .before .before .before .before .before .args in Writable (a .fields) (now (a .carried)) (a .sum-word) (now (a .out))
 may c = writable _ _ _ _ (sym (c .before .refusal .ensures) ∙ c .if1 .left)
 
-write-unsummed-requires : tie.Need-write-unsummed-requires
-write-unsummed-requires c κs = let m = may (c .before .before .before .before) in (m .count, m .carries, m .room)
-
 mul-write-into : tie.Need-mul-write-into
 mul-write-into c = let m = may (c .before .before .before .before .before .before .before .before .before .before .before) in omega (arith, m .to)
 
@@ -49,7 +46,7 @@ write-packet-spec =
     (λ c κs. search needs)
     (λ c. search needs)
     returns
-    write-unsummed-requires
+    (λ c κs. let m = may (c .before .before .before .before) in (m .count, m .carries, m .room))
     (λ c κs. search needs)
     (λ c κs. search needs)
     (λ c. search needs)

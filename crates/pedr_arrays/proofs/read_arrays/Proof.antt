@@ -6,7 +6,13 @@ use Rattle.pedr_arrays.proofs.read_arrays.Tie as tie
 
 returns : tie.Need-returns
 unfolding arraysOf
-returns c = cc
+returns c =
+    λ i. record {
+      shots = c .before .before .before .read-shot-arrays .ensures i;
+      channels = c .before .before .read-channel-arrays .ensures i;
+      xyz = c .before .read-xyz .ensures i;
+      «source_header» = c .read-source-header .ensures i;
+    }
 
 pub read-arrays-spec : {M : Type 1} → statement M
 read-arrays-spec =

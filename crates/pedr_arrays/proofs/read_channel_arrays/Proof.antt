@@ -6,7 +6,11 @@ use Rattle.pedr_arrays.proofs.read_channel_arrays.Tie as tie
 
 returns : tie.Need-returns
 unfolding channelArraysOf
-returns c = cc
+returns c =
+    λ i. record {
+      noise = c .before .before .before .before .read-u32s .ensures i;
+      thresholds = c .before .read-u16s .ensures i;
+    }
 
 pub read-channel-arrays-spec : {M : Type 1} → statement M
 read-channel-arrays-spec =

@@ -6,7 +6,15 @@ use Rattle.pedr_fields.proofs.read_receiver.Tie as tie
 
 returns : tie.Need-returns
 unfolding receiverOf
-returns c = cc
+returns c =
+    λ i. record {
+      «channel_mask» = c .before .before .before .before .before .u16-at .ensures i;
+      «minimum_hits» = c .before .before .before .before .u16-at2 .ensures i;
+      «hit_count» = c .before .before .before .u16-at3 .ensures i;
+      «frame_counter» = c .before .before .u16-at4 .ensures i;
+      trigger = c .before .u16-at5 .ensures i;
+      «frame_index» = c .u16-at6 .ensures i;
+    }
 
 pub read-receiver-spec : {M : Type 1} → statement M
 read-receiver-spec =

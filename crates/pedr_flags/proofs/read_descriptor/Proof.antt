@@ -6,7 +6,14 @@ use Rattle.pedr_flags.proofs.read_descriptor.Tie as tie
 
 returns : tie.Need-returns
 unfolding descriptorOf
-returns c = cc
+returns c =
+    λ i. record {
+      «packet_sum» = c .before .before .before .before .has-failed .ensures i;
+      «software_sum» = c .before .before .before .has-failed2 .ensures i;
+      mode = c .before .before .has-failed3 .ensures i;
+      ots = c .before .has-failed4 .ensures i;
+      carried = c .u24-at .ensures i;
+    }
 
 pub read-descriptor-spec : {M : Type 1} → statement M
 read-descriptor-spec =

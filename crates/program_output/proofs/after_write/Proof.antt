@@ -8,12 +8,6 @@ use Rattle.program_output.proofs.Writing.{bytes-more, bytes-whole}
 use Rattle.program_output.proofs.after_write.Statement.{statement}
 use Rattle.program_output.proofs.after_write.Tie as tie
 
-add-count : tie.Need-add-count
-add-count c = omega (arith, ap bytesTaken (c .before .wrote .given .1), c .before .before .before .pre)
-
-sub-left : tie.Need-sub-left
-sub-left c = omega (arith, ap bytesTaken (c .before .wrote .given .1), c .before .before .before .pre)
-
 returns : tie.Need-returns
 returns c =
     let a = c .before .before .before .before .args in
@@ -30,4 +24,4 @@ returns-3 c =
 
 pub after-write-spec : {M : Type 1} → statement M
 after-write-spec =
-    tie.close (tie.spec (λ c. search needs) (λ c. search needs) add-count sub-left returns returns-2 returns-3)
+    tie.close (tie.spec (λ c. search needs) (λ c. search needs) (λ c. omega (arith, ap bytesTaken (c .before .wrote .given .1), c .before .before .before .pre)) (λ c. omega (arith, ap bytesTaken (c .before .wrote .given .1), c .before .before .before .pre)) returns returns-2 returns-3)

@@ -7,12 +7,6 @@ use borrow.Author.Needs.{needs}
 use Rattle.reorder_c_answers.proofs.drained_count.Statement.{statement}
 use Rattle.reorder_c_answers.proofs.drained_count.Tie as tie
 
-returns : tie.Need-returns
-returns c = ap (λ (a : DrainAnswer). drainedCount (drainSaid a)) (sym (c .before .answer .given .1))
-
-returns-2 : tie.Need-returns-2
-returns-2 c = ap (λ (a : DrainAnswer). drainedCount (drainSaid a)) (sym (c .before .answer2 .given .1))
-
 pub drained-count-spec : {M : Type 1} → statement M
 drained-count-spec =
-    tie.close (tie.spec (λ c. search needs) (λ c. search needs) (λ c. search needs) returns returns-2)
+    tie.close (tie.spec (λ c. search needs) (λ c. search needs) (λ c. search needs) (λ c. ap (λ (a : DrainAnswer). drainedCount (drainSaid a)) (sym (c .before .answer .given .1))) (λ c. ap (λ (a : DrainAnswer). drainedCount (drainSaid a)) (sym (c .before .answer2 .given .1))))

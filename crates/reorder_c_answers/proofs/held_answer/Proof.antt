@@ -7,12 +7,6 @@ use borrow.Author.Needs.{needs}
 use Rattle.reorder_c_answers.proofs.held_answer.Statement.{statement}
 use Rattle.reorder_c_answers.proofs.held_answer.Tie as tie
 
-returns : tie.Need-returns
-returns c = ap (λ (a : OfferAnswer). heldAnswer (offerSaid a)) (sym (c .before .answer .given .1))
-
-returns-2 : tie.Need-returns-2
-returns-2 c = ap (λ (a : OfferAnswer). heldAnswer (offerSaid a)) (sym (c .before .answer2 .given .1))
-
 pub held-answer-spec : {M : Type 1} → statement M
 held-answer-spec =
-    tie.close (tie.spec (λ c. search needs) (λ c. search needs) (λ c. search needs) returns returns-2)
+    tie.close (tie.spec (λ c. search needs) (λ c. search needs) (λ c. search needs) (λ c. ap (λ (a : OfferAnswer). heldAnswer (offerSaid a)) (sym (c .before .answer .given .1))) (λ c. ap (λ (a : OfferAnswer). heldAnswer (offerSaid a)) (sym (c .before .answer2 .given .1))))

@@ -26,12 +26,9 @@ described-numbers (Sv.Packet p) h = refl
 described-numbers (Sv.Missing p) h = refl
 described-numbers Sv.Waiting h = refl
 
-returns : tie.Need-returns
-returns c = ap (λ (a : ServeAnswer). servedAnswer (serveSaid a)) (sym (c .before .answer .given .1))
-
 returns-2 : tie.Need-returns-2
 returns-2 c = ap told (c .describe .ensures) ∙ described-numbers (c .before .before .args .answer) (c .before .match .keys2)
 
 pub served-answer-spec : {M : Type 1} → statement M
 served-answer-spec =
-    tie.close (tie.spec (λ c. search needs) (λ c. search needs) returns (λ c κs. search needs) returns-2)
+    tie.close (tie.spec (λ c. search needs) (λ c. search needs) (λ c. ap (λ (a : ServeAnswer). servedAnswer (serveSaid a)) (sym (c .before .answer .given .1))) (λ c κs. search needs) returns-2)

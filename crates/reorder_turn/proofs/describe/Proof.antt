@@ -7,18 +7,6 @@ use borrow.Author.Needs.{needs}
 use Rattle.reorder_turn.proofs.describe.Statement.{statement}
 use Rattle.reorder_turn.proofs.describe.Tie as tie
 
-returns : tie.Need-returns
-returns c = ap (λ (a : ServeAnswer). descriptionOf (serveSaid a)) (sym (c .enum-told .given .1))
-
-returns-2 : tie.Need-returns-2
-returns-2 c = ap (λ (a : ServeAnswer). descriptionOf (serveSaid a)) (sym (c .before .answer .given .1))
-
-returns-3 : tie.Need-returns-3
-returns-3 c = ap (λ (a : ServeAnswer). descriptionOf (serveSaid a)) (sym (c .before .answer2 .given .1))
-
-returns-4 : tie.Need-returns-4
-returns-4 c = ap (λ (a : ServeAnswer). descriptionOf (serveSaid a)) (sym (c .enum-told2 .given .1))
-
 pub describe-spec : {M : Type 1} → statement M
 describe-spec =
     tie.close
@@ -27,7 +15,7 @@ describe-spec =
     (λ c. search needs)
     (λ c. search needs)
     (λ c. search needs)
-    returns
-    returns-2
-    returns-3
-    returns-4)
+    (λ c. ap (λ (a : ServeAnswer). descriptionOf (serveSaid a)) (sym (c .enum-told .given .1)))
+    (λ c. ap (λ (a : ServeAnswer). descriptionOf (serveSaid a)) (sym (c .before .answer .given .1)))
+    (λ c. ap (λ (a : ServeAnswer). descriptionOf (serveSaid a)) (sym (c .before .answer2 .given .1)))
+    (λ c. ap (λ (a : ServeAnswer). descriptionOf (serveSaid a)) (sym (c .enum-told2 .given .1))))

@@ -36,9 +36,6 @@ cast-result : tie.Need-cast-result
 cast-result c =
     rw (less-one c) (tt, record { fits = omega (arith, fits-down w64 (c .before .args .n) (c .before .fits .n)) })
 
-add-result : tie.Need-add-result
-add-result c = rw (less-one c) (omega (arith, fits-down w64 (c .before .args .n) (c .before .fits .n)))
-
 cast-result-2 : tie.Need-cast-result-2
 cast-result-2 c =
     let f = c .before .fits .n in
@@ -46,4 +43,4 @@ cast-result-2 c =
 
 pub magnitude-spec : {M : Type 1} → statement M
 magnitude-spec =
-    tie.close (tie.spec (λ c. not-fits w64 _ (reread (c .before .fits .n))) cast-result add-result cast-result-2 (λ c. search needs) (λ c. search needs))
+    tie.close (tie.spec (λ c. not-fits w64 _ (reread (c .before .fits .n))) cast-result (λ c. rw (less-one c) (omega (arith, fits-down w64 (c .before .args .n) (c .before .fits .n)))) cast-result-2 (λ c. search needs) (λ c. search needs))
