@@ -23,6 +23,10 @@ returns c =
     let p = c .before .before .before .before .before .before .print-chunk in
     ends (p .result) (l .full) (l .records) _ _ (p .ensures) (sym (c .before .continues .ensures) ∙ not-true _ (c .if1 .taken)) (l .inv .3) (l .inv .2)
 
+loop-less : tie.Need-loop-less Inv-loop μ-loop
+loop-less c =
+    let l = c .before .before .before .before .before .before .before .before .before .loop in omega (arith, l .inv .2)
+
 loop-again : tie.Need-loop-again Inv-loop μ-loop
 loop-again c =
     let l = c .before .before .before .before .before .before .before .before .before .loop in
@@ -43,5 +47,5 @@ print-chunks-spec =
     (λ c. search needs)
     returns
     (λ c. search needs)
-    (λ c. search needs)
+    loop-less
     loop-again)

@@ -1,13 +1,12 @@
 -- One law of loops that fill a list, at the bytes from index i on.
 use Prim.Native.Nat.{_+_, _-_, min}
-use mathlib.Core.Path.{_≡_, _∙_}
+use mathlib.Core.Path.{_≡_, _∙_, refl}
 use denote.Ref.{now}
 use native.Mathlib.Omega.{arith}
 use lib.ListN.{length, getD, length-set}
 use Rattle.octets.specs.Table.{octetsAt}
 use Rattle.octets.proofs.Fill.{Filled, fill-more, fill-done}
 use Rattle.octets.proofs.Read.{past-end}
-use borrow.Author.Needs.{needs}
 use Rattle.octets.proofs.read_into.Statement.{statement}
 use Rattle.octets.proofs.read_into.Tie as tie
 
@@ -42,12 +41,12 @@ read-into-spec =
     Inv-loop
     μ-loop
     (λ c κs. omega arith)
-    (λ c. search needs)
+    (λ c. (c .least .ensures, refl, (omega arith, refl)))
     (λ c. omega arith)
     (λ c κs. omega arith)
     (λ c. omega arith)
     (λ c. omega arith)
     (λ c. omega arith)
     loop-again
-    (λ c. search needs)
+    (λ c. c .before .loop .inv .1)
     returns)

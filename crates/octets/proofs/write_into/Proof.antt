@@ -5,7 +5,6 @@ use denote.Ref.{now}
 use native.Mathlib.Omega.{arith}
 use lib.ListN.{length}
 use Rattle.octets.proofs.Store.{Stored, store-none, store-more, store-done}
-use borrow.Author.Needs.{needs}
 use Rattle.octets.proofs.write_into.Statement.{statement}
 use Rattle.octets.proofs.write_into.Tie as tie
 
@@ -53,5 +52,5 @@ write-into-spec =
     (λ c. omega arith)
     (λ c. omega arith)
     loop-again
-    (λ c. search needs)
+    (λ c. c .before .loop .inv .3 .0)
     returns)

@@ -1,10 +1,9 @@
 -- One law of loops that fill a list, at the starts; no start wraps.
 use Prim.Native.Nat.{ℕ, _+_, _-_, _*_, _<_}
-use mathlib.Core.Path.{_≡_, ap}
+use mathlib.Core.Path.{_≡_, refl, ap}
 use native.Mathlib.Omega.{arith}
 use Rattle.octets.proofs.Fill.{Filled, fill-more, fill-done}
 use Rattle.packet_bins.specs.Bins.{firstBin, binStart, binStarts}
-use borrow.Author.Needs.{needs}
 use Rattle.packet_bins.proofs.bin_starts.Statement.{statement}
 use Rattle.packet_bins.proofs.bin_starts.Tie as tie
 
@@ -35,7 +34,7 @@ bin-starts-spec =
     μ-loop
     (λ c κs. omega arith)
     (λ c. omega arith)
-    (λ c. search needs)
+    (λ c. (c .first-bin .ensures, omega arith, (omega arith, refl)))
     (λ c. omega arith)
     (λ c. omega arith)
     (λ c. omega arith)

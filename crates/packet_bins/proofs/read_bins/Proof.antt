@@ -1,12 +1,11 @@
 -- One law of loops that fill a list, at the bins.
 use Prim.Native.Nat.{ℕ, _-_}
-use mathlib.Core.Path.{_∙_, ap}
+use mathlib.Core.Path.{_∙_, refl, ap}
 use denote.Ref.{now}
 use native.Mathlib.Omega.{arith}
 use lib.ListN.{getD}
 use Rattle.octets.proofs.Fill.{Filled, fill-more, fill-done}
 use Rattle.packet_bins.specs.Bins.{binByte, binsOf}
-use borrow.Author.Needs.{needs}
 use Rattle.packet_bins.proofs.read_bins.Statement.{statement}
 use Rattle.packet_bins.proofs.read_bins.Tie as tie
 
@@ -36,7 +35,7 @@ read-bins-spec =
     (tie.spec
     Inv-loop
     μ-loop
-    (λ c. search needs)
+    (λ c. (omega arith, refl))
     (λ c κs. omega arith)
     (λ c κs. omega arith)
     (λ c. omega arith)

@@ -1,12 +1,11 @@
 -- One law of loops that fill a list, at the swapped bins.
 use Prim.Native.Nat.{ℕ, _-_}
-use mathlib.Core.Path.{ap}
+use mathlib.Core.Path.{refl, ap}
 use native.Mathlib.Omega.{arith}
 use lib.ListN.{getD}
 use Rattle.octets.proofs.Fill.{Filled, fill-more, fill-done}
 use Rattle.packet_bins.specs.Bins.{binByte}
 use Rattle.packet_writer.specs.Write.{histogramOf}
-use borrow.Author.Needs.{needs}
 use Rattle.packet_writer.proofs.histogram_bytes.Statement.{statement}
 use Rattle.packet_writer.proofs.histogram_bytes.Tie as tie
 
@@ -35,7 +34,7 @@ histogram-bytes-spec =
     (tie.spec
     Inv-loop
     μ-loop
-    (λ c. search needs)
+    (λ c. (omega arith, refl))
     (λ c κs. omega arith)
     (λ c. omega arith)
     (λ c. omega arith)

@@ -1,12 +1,12 @@
 -- Both are the same arrays, written out.
+use mathlib.Core.Path.{refl}
 use Rattle.pedr_arrays.specs.Arrays.{noArrays}
-use borrow.Author.Needs.{needs}
 use Rattle.pedr_arrays.proofs.no_arrays.Statement.{statement}
 use Rattle.pedr_arrays.proofs.no_arrays.Tie as tie
 
 returns : tie.Need-returns
 unfolding noArrays
-returns c = search needs
+returns c = refl
 
 pub no-arrays-spec : {M : Type 1} → statement M
 no-arrays-spec = tie.close (tie.spec returns)

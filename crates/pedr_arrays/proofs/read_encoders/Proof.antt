@@ -1,6 +1,6 @@
 -- One law of loops that fill a list, at the encoder bits of each shot.
 use Prim.Native.Nat.{ℕ, _+_, _-_}
-use mathlib.Core.Path.{sym, ap, _∙_}
+use mathlib.Core.Path.{refl, sym, ap, _∙_}
 use mathlib.Core.List.{List}
 use denote.Ref.{now}
 use native.Mathlib.Omega.{arith}
@@ -44,7 +44,7 @@ read-encoders-spec =
     (tie.spec
     Inv-loop
     μ-loop
-    (λ c. search needs)
+    (λ c. (omega arith, refl))
     (λ c. omega arith)
     (λ c κs. search needs)
     (λ c κs. search needs)

@@ -1,6 +1,6 @@
 -- One law of loops that fill a list, at the tests of each shot.
 use Prim.Native.Nat.{ℕ, suc, _-_}
-use mathlib.Core.Path.{ap, _∙_}
+use mathlib.Core.Path.{refl, ap, _∙_}
 use mathlib.Core.List.{List}
 use denote.Ref.{now}
 use native.Mathlib.Omega.{arith}
@@ -40,7 +40,7 @@ read-all-failures-spec =
     (tie.spec
     Inv-loop
     μ-loop
-    (λ c. search needs)
+    (λ c. (omega arith, refl))
     (λ c. omega arith)
     (λ c κs. search needs)
     (λ c. omega arith)

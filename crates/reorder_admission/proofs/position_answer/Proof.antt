@@ -51,7 +51,7 @@ asked c =
 
 returns : tie.Need-returns
 unfolding admitted
-returns c = search needs
+returns c = ap (λ (l : Located). admitted (c .before .before .args .window .start) (heldAt (c .before .before .args .window)) (locatedSaid l)) (sym (c .enum-told .given .1))
 
 returns-2 : tie.Need-returns-2
 returns-2 c =

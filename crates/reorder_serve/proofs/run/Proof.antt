@@ -1,6 +1,7 @@
 -- The answers so far, and what they leave, are the loop's invariant.
 use Prim.Native.Nat.{_-_}
 use mathlib.Core.Path.{_≡_, refl, sym, ap, _∙_}
+use native.Mathlib.Omega.{arith}
 use denote.Ref.{now}
 use lib.ListN.{length}
 use Rattle.reorder_rules.proofs.Turns.{shown-length, turns-stop}
@@ -36,6 +37,12 @@ module _ (c : tie.After-step Inv-loop μ-loop) where
 described-is : (c : tie.After-describe Inv-loop μ-loop) → c .describe .result ≡ described (turn (now-is (c .before .before .before)))
 described-is c = c .describe .ensures ∙ ap descriptionOf (c .before .before .before .step .ensures .0)
 
+step-requires : tie.Need-step-requires Inv-loop μ-loop
+step-requires c κs =
+    let l = c .before .before in
+    let p = l .before .before .before .pre in
+    (omega (arith, p .0, l .loop .inv .next, l .loop .inv .within, p .1 .1), p .1 .0)
+
 returns : tie.Need-returns Inv-loop μ-loop
 returns c =
     let k = c .before .before .before .before .before in
@@ -60,9 +67,9 @@ run-spec =
     Inv-loop
     μ-loop
     (λ c. run-none _ _ _ _)
+    step-requires
     (λ c κs. search needs)
-    (λ c κs. search needs)
-    (λ c. search needs)
+    (λ c. out-size (c .before .before .before .before .before))
     returns
     (λ c. search needs)
     (λ c. search needs)
@@ -70,5 +77,5 @@ run-spec =
     (λ c. search needs)
     (λ c. search needs)
     loop-again
-    (λ c. search needs)
+    (λ c. c .before .loop .inv .size)
     returns-2)
