@@ -5,7 +5,7 @@ use native.Mathlib.Omega.{arith}
 use denote.Ref.{now}
 use lib.ListN.{length}
 use Rattle.octets.specs.Refusal.{refusalIn}
-use Rattle.octets.proofs.Ladder.{pass-eq, fail-eq, pass-within, fail-below, fail-above, say-refused, say-answered, answer-said}
+use Rattle.octets.proofs.Ladder.{rungs, say-refused, say-answered, answer-said}
 use Rattle.packet_check.specs.Refusal.{readRefusal}
 use Rattle.packet_check.proofs.Accept.{accepted}
 use Rattle.packet.specs.declared.PacketAnswer.{PacketAnswer}
@@ -23,22 +23,22 @@ use Rattle.reorder_offer.proofs.open_or.Tie as tie
 ready : (c : tie.Else3) (r : ℕ) → let k = c .before .before .before .before .before .args in
     r ≡ readRefusal (now (k .packet)) (k .sum-word) → r ≡ openRefusal (length (now (k .store))) (now (k .packet)) (k .threshold) (k .sum-word)
 unfolding openRefusal
-ready c r e = pass-within 1 31 _ 20 _ r (c .before .before .if1 .left) (c .before .if2 .left) (pass-eq _ _ 27 _ r (c .if3 .left) e)
+ready c r e = search rungs depth 10
 
 returns : tie.Need-returns
 unfolding openRefusal openDue openOf
 returns c =
-    stays _ _ _ _ 20 _ (say-refused {A = ℕ} 20 _ 0 (fail-below 1 31 _ 20 _ (c .if1 .taken)) (λ q. omega arith))
+    stays _ _ _ _ _ _ (say-refused {A = ℕ} _ _ 0 (search rungs depth 10) (λ q. omega arith))
 
 returns-2 : tie.Need-returns-2
 unfolding openRefusal openDue openOf
 returns-2 c =
-    stays _ _ _ _ 20 _ (say-refused {A = ℕ} 20 _ 0 (fail-above 1 31 _ 20 _ (c .before .if1 .left) (c .if2 .taken)) (λ q. omega arith))
+    stays _ _ _ _ _ _ (say-refused {A = ℕ} _ _ 0 (search rungs depth 10) (λ q. omega arith))
 
 returns-3 : tie.Need-returns-3
 unfolding openRefusal openDue openOf
 returns-3 c =
-    stays _ _ _ _ 27 _ (say-refused {A = ℕ} 27 _ 0 (pass-within 1 31 _ 20 _ 27 (c .before .before .if1 .left) (c .before .if2 .left) (fail-eq _ _ 27 _ (c .if3 .taken))) (λ q. omega arith))
+    stays _ _ _ _ _ _ (say-refused {A = ℕ} _ _ 0 (search rungs depth 10) (λ q. omega arith))
 
 returns-4 : tie.Need-returns-4
 unfolding openRefusal openDue openOf
