@@ -7,9 +7,10 @@
  *
  * A pointer with a length is lent: that many bytes to read, or to write where the pointer is not const. A length of 0 takes any pointer, a null
  * pointer too. A pointer without a length (session, temperatures, readings, bins, descriptions) points to one whole object of its type, and is never
- * null. No other argument of a call shares what one is lent to write.
+ * null. What a call writes overlaps no other argument. Of the arguments, the session comes first, then what is written, then what is read, then
+ * numbers: serve and drain take out before store. No function keeps a pointer, allocates, or has a state of its own.
  *
- * Refusal numbers:
+ * Refusal numbers. "Gives" below has those that a function can give, in the order in which they are tested:
  *    1 packet not 1,080 bytes                       16 (a shot not 1 to 20: no function here)
  *    2 sum_word not 53 to 539                       17 count over 16,383, error status over 7, or carried bytes not 974
  *    3 version not 0                                18 output not 1,080 bytes
@@ -125,7 +126,12 @@ uint8_t mola_write_packet(struct mola_fields fields, const uint8_t temperatures[
 /* The refusal number of a record: 11 to 15, or 0. */
 uint8_t mola_check_record(const uint8_t *record, size_t record_len);
 
-/* ---- the reorder buffer, over one session that is lent to each call and updated there */
+/* ---- the reorder buffer, over one session that is lent to each call and updated there
+ *
+ * A session has a store of its own, in which opening and offers keep copies of packets. It need not be cleared before, and has to come back to each
+ * call as the last one left it. The threshold decides when a position that has not come is called missing: once a packet at least so many positions
+ * further on is held. A packet more than 31 positions after next is refused (25), and so are all later ones, until serves or passes have moved next on
+ * or the session is opened again. */
 
 /* Opens the session with this packet at position 0, and answers MOLA_PACKET with 0. Any values may stand in the session before. Gives 20, 27,
  * 1 to 10. */

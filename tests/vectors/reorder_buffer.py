@@ -44,7 +44,7 @@ def numbers_of(session):
 def position(session, count, time):
     """Section The rack: the integer that fits count and time, or None. Every one near is tried."""
     elapsed = time - session.time
-    near = elapsed // 14
+    near = elapsed // 14  # a position that fits is at most 3,600 / 14 < 258 from it
     fits = [
         p
         for p in range(near - 300, near + 301)
@@ -125,7 +125,7 @@ def offer(session, store, packet):
     return ("held", p), session._replace(held={**session.held, p: bytes(packet)})
 
 
-def turn(session):
+def next_answer(session):
     """Section The rack, serve: the answer, the packet or None, and the session afterwards."""
     p = session.next
     after = session._replace(next=p + 1, held={other: packet for other, packet in session.held.items() if other != p})
@@ -150,7 +150,7 @@ def serve(session, store, output):
     number = serve_refusal(session, store, output)
     if number:
         return ("refused", number), session
-    answer, packet, after = turn(session)
+    answer, packet, after = next_answer(session)
     if packet is not None:
         output[:PACKET_SIZE] = packet
     return answer, after
@@ -174,7 +174,7 @@ def drain(session, store, output, budget):
         return ("refused", number), [], session
     described = []
     while len(described) < budget:
-        answer, packet, session = turn(session)
+        answer, packet, session = next_answer(session)
         if answer == ("waiting",):
             break
         if packet is not None:
