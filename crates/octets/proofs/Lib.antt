@@ -4,3 +4,5 @@ pub mod Numbers
 pub mod Store
 pub mod Ladder
 pub mod Codec
+pub mod Complement
+pub mod Runs

@@ -4,7 +4,7 @@ use Prim.Native.Nat.{ℕ, zero, suc, _+_, _-_, _*_, _/_, _%_, _^_, _<_}
 use mathlib.Core.Bool.{cond}
 use mathlib.Core.List.{List, [], _∷_}
 use lib.Dec.{ltb}
-use lib.IntN.{ℤ, pos, _-ℤ_}
+use lib.IntN.{ℤ, pos, negsuc, _-ℤ_}
 use lib.ListN.{getD, take, drop}
 use lib.Seq.{sets}
 
@@ -21,6 +21,16 @@ natAt s i (suc (suc n)) = natAt s i (suc n) * 256 + getD s (i + suc n) 0
 -- the two's complement reading of a number x of k bits: x below 2^(k - 1), and x - 2^k from there on
 abbrev pub signed : ℕ → ℕ → ℤ
 signed k x = cond (ltb x (2 ^ (k - 1))) (pos x) (pos x -ℤ pos (2 ^ k))
+
+-- the integers that k bits of two's complement hold: from -2^(k - 1) to 2^(k - 1) - 1
+abbrev pub SignedFits : ℕ → ℤ → Type 0
+SignedFits k (pos n) = n < 2 ^ (k - 1)
+SignedFits k (negsuc n) = n < 2 ^ (k - 1)
+
+-- the number of k bits whose two's complement reading is z: z from 0 on, and z + 2^k below 0
+abbrev pub complemented : ℕ → ℤ → ℕ
+complemented k (pos n) = n
+complemented k (negsuc n) = 2 ^ k - suc n
 
 -- the signed number in the n bytes of s from index i on
 abbrev pub intAt : List ℕ → ℕ → ℕ → ℤ

@@ -1,9 +1,9 @@
 -- A list given by a rule for each index.
 use Prim.Native.Nat.{ℕ, zero, suc, _+_, _*_}
-use mathlib.Core.List.{List, [], _∷_}
+use mathlib.Core.List.{List, [], _∷_, _++_}
 use lib.IntN.{ℤ}
 use lib.ListN.{getD}
-use Rattle.octets.specs.Bytes.{natAt, intAt}
+use Rattle.octets.specs.Bytes.{natAt, intAt, octetsOf}
 
 -- f 0, f 1, .., f (n - 1)
 abbrev pub table : {A : Type 0} → ℕ → (ℕ → A) → List A
@@ -20,3 +20,8 @@ natsAt s i w n = table n (λ k. natAt s (i + w * k) w)
 
 unfoldable pub intsAt : List ℕ → ℕ → ℕ → ℕ → List ℤ
 intsAt s i w n = table n (λ k. intAt s (i + w * k) w)
+
+-- the bytes of each number, w bytes each, one number after the other
+unfoldable pub octetsOfAll : ℕ → List ℕ → List ℕ
+octetsOfAll w [] = []
+octetsOfAll w (x ∷ xs) = octetsOf w x ++ octetsOfAll w xs

@@ -110,11 +110,10 @@ pub fn read_into(bytes: &[u8], i: usize, out: &mut [u8])
 pub fn read_u16s(bytes: &[u8], i: usize, out: &mut [u16])
     ensures { λ _. ⌜ now (out .exit) ≡ natsAt (now (bytes .entry)) i 2 (length (now (out .entry))) ⌝ }
 {
-    let mut at = least(i, bytes.len());
+    let from = least(i, bytes.len());
     let mut k = 0;
     while k < out.len() {
-        out[k] = u16_at(bytes, at);
-        at = least(at + 2, bytes.len());
+        out[k] = u16_at(bytes, from + 2 * k);
         k = k + 1;
     }
 }
@@ -123,11 +122,10 @@ pub fn read_u16s(bytes: &[u8], i: usize, out: &mut [u16])
 pub fn read_u32s(bytes: &[u8], i: usize, out: &mut [u32])
     ensures { λ _. ⌜ now (out .exit) ≡ natsAt (now (bytes .entry)) i 4 (length (now (out .entry))) ⌝ }
 {
-    let mut at = least(i, bytes.len());
+    let from = least(i, bytes.len());
     let mut k = 0;
     while k < out.len() {
-        out[k] = u32_at(bytes, at);
-        at = least(at + 4, bytes.len());
+        out[k] = u32_at(bytes, from + 4 * k);
         k = k + 1;
     }
 }

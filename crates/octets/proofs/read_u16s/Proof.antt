@@ -9,23 +9,22 @@ use Rattle.octets.proofs.read_u16s.Statement.{statement}
 use Rattle.octets.proofs.read_u16s.Tie as tie
 
 abbrev Inv-loop : tie.InvT-loop
-Inv-loop bytes i out₀ at₀ k₀ out at k = Reading bytes i 2 out₀ out at k
+Inv-loop bytes i out₀ from k₀ out k = Reading bytes i 2 out₀ from out k
 
 abbrev μ-loop : tie.MeasureT-loop
-μ-loop bytes i out₀ at₀ k₀ out at k = length out₀ - k
+μ-loop bytes i out₀ from k₀ out k = length out₀ - k
 
 loop-again : tie.Need-loop-again Inv-loop μ-loop
 loop-again c =
-    let l = c .before .before .before .loop in
-    let a = c .before .before .before .before .before .before .before .args in
-    let h = c .before .before .loop-test .taken in
-    reading-more (now (a .bytes)) (a .i) 2 (now (a .out)) (l .out) (l .at) (l .k) _ _ (omega arith) (c .before .u16-at .ensures) (c .least2 .ensures) (l .inv)
+    let l = c .before .before .loop in
+    let a = c .before .before .before .before .before .before .args in
+    reading-more (now (a .bytes)) (a .i) 2 (now (a .out)) _ (l .out) (l .k) _ (omega arith) (c .u16-at .ensures) (l .inv)
 
 returns : tie.Need-returns Inv-loop μ-loop
 returns c =
     let l = c .before .loop in
     let a = c .before .before .before .before .before .args in
-    reading-done (now (a .bytes)) (a .i) 2 (now (a .out)) (l .out) (l .at) (l .k) (omega arith) (l .inv)
+    reading-done (now (a .bytes)) (a .i) 2 (now (a .out)) _ (l .out) (l .k) (omega arith) (l .inv)
 
 pub read-u16s-spec : {M : Type 1} → statement M
 read-u16s-spec =
@@ -35,11 +34,11 @@ read-u16s-spec =
     μ-loop
     (λ c κs. omega arith)
     (λ c. reading-none (now (c .before .before .before .args .bytes)) _ 2 _ _ (c .least .ensures))
+    (λ c. omega arith)
+    (λ c. omega arith)
     (λ c κs. omega arith)
     (λ c. search needs)
     (λ c. omega arith)
-    (λ c. omega arith)
-    (λ c κs. omega arith)
     (λ c. omega arith)
     (λ c. omega arith)
     loop-again
