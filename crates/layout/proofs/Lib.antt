@@ -1,2 +1,3 @@
 pub mod Cover
 pub mod Store
+pub mod Values

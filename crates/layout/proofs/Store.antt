@@ -16,6 +16,14 @@ putAll s [] cs = s
 putAll s (p ∷ ps) [] = s
 putAll s (p ∷ ps) (c ∷ cs) = putAll (put s (c .start) p) ps cs
 
+-- stored in two steps
+pub put-append : (ps qs : List (List ℕ)) (cs ds : List Column) (s : List ℕ) → length ps ≡ length cs
+    → putAll (putAll s ps cs) qs ds ≡ putAll s (ps ++ qs) (cs ++ ds)
+put-append [] qs [] ds s e = refl
+put-append [] qs (c ∷ cs) ds s e = absurd (omega arith)
+put-append (p ∷ ps) qs [] ds s e = absurd (omega arith)
+put-append (p ∷ ps) qs (c ∷ cs) ds s e = put-append ps qs cs ds (put s (c .start) p) (omega arith)
+
 -- behind the bytes x
 put-after : (ps : List (List ℕ)) (cs : List Column) (s x : List ℕ) (a b : ℕ) → tiles a b cs ≡ true → a ≡ length x → Fit ps cs
     → putAll (put s 0 x) ps cs ≡ put s 0 (x ++ join ps)

@@ -1,12 +1,13 @@
 -- A published layout as data: a list of columns.
-use Prim.Native.Nat.{ℕ, _+_, _*_, _<_}
+use Prim.Native.Nat.{ℕ, _+_, _*_, _^_, _<_}
 use mathlib.Core.Path.{_≡_}
 use mathlib.Core.Bool.{Bool, true, false, _&&_}
-use mathlib.Core.List.{List, [], _∷_, _++_}
+use mathlib.Core.List.{List, [], _∷_, _++_, map}
 use lib.Dec.{eqb, leb, ltb}
-use lib.IntN.{ℤ}
-use Rattle.octets.specs.Bytes.{natAt, intAt, part}
-use Rattle.octets.specs.Table.{octetsAt, natsAt, intsAt}
+use lib.IntN.{ℤ, pos}
+use lib.ListN.{getD}
+use Rattle.octets.specs.Bytes.{natAt, intAt, SignedFits, complemented, octetsOf, part}
+use Rattle.octets.specs.Table.{octetsAt, natsAt, intsAt, octetsOfAll}
 
 -- whether the numbers of a column are unsigned or signed two's complement
 pub data Sign : Type 0 where
@@ -74,6 +75,31 @@ values s c = numbersAt (c .sign) s (c .start) (c .width) (c .items)
 -- the bytes of a column of bytes
 abbrev pub octetsIn : List ℕ → Column → List ℕ
 octetsIn s c = octetsAt s (c .start) (c .items)
+
+-- the w bytes of a number by the sign, and those of several numbers, one after the other
+abbrev pub numberOctets : (g : Sign) → ℕ → Number g → List ℕ
+numberOctets unsigned w x = octetsOf w x
+numberOctets complement w z = octetsOf w (complemented (8 * w) z)
+
+abbrev pub numbersOctets : (g : Sign) → ℕ → List (Number g) → List ℕ
+numbersOctets unsigned w xs = octetsOfAll w xs
+numbersOctets complement w zs = octetsOfAll w (map (complemented (8 * w)) zs)
+
+-- the bytes of a column of one item that holds a number, and of a column of several that holds numbers
+abbrev pub holding : (c : Column) → Number (c .sign) → List ℕ
+holding c x = numberOctets (c .sign) (c .width) x
+
+abbrev pub holdingAll : (c : Column) → List (Number (c .sign)) → List ℕ
+holdingAll c xs = numbersOctets (c .sign) (c .width) xs
+
+-- a number that w bytes hold by the sign, and numbers each of which they hold
+abbrev pub Holds : (g : Sign) → ℕ → Number g → Type 0
+Holds unsigned w x = x < 256 ^ w
+Holds complement w z = SignedFits (8 * w) z
+
+abbrev pub HoldsAll : (g : Sign) → ℕ → List (Number g) → Type 0
+HoldsAll unsigned w xs = (k : ℕ) → getD xs k 0 < 256 ^ w
+HoldsAll complement w zs = (k : ℕ) → SignedFits (8 * w) (getD zs k (pos 0))
 
 -- the bytes cut into their columns, and columns joined to bytes
 abbrev pub cut : List ℕ → List Column → List (List ℕ)
