@@ -1,11 +1,12 @@
 -- A published layout as data: a list of columns.
 use Prim.Native.Nat.{ℕ, _+_, _*_, _^_, _<_}
 use mathlib.Core.Path.{_≡_}
-use mathlib.Core.Bool.{Bool, true, false, _&&_}
+use mathlib.Core.Bool.{Bool, true, _&&_}
 use mathlib.Core.List.{List, [], _∷_, _++_, map}
 use lib.Dec.{eqb, leb, ltb}
 use lib.IntN.{ℤ, pos}
 use lib.ListN.{getD}
+use Rattle.numbers.specs.Bit.{digit}
 use Rattle.octets.specs.Bytes.{natAt, intAt, SignedFits, complemented, octetsOf, part}
 use Rattle.octets.specs.Table.{octetsAt, natsAt, intsAt, octetsOfAll}
 
@@ -33,15 +34,10 @@ abbrev pub tiles : ℕ → ℕ → List Column → Bool
 tiles a b [] = eqb a b
 tiles a b (c ∷ cs) = eqb (c .start) a && tiles (a + size c) b cs
 
--- 1 for true, 0 for false
-abbrev pub one : Bool → ℕ
-one true = 1
-one false = 0
-
 -- how many of the columns hold byte k
 unfoldable pub holders : ℕ → List Column → ℕ
 holders k [] = 0
-holders k (c ∷ cs) = one (leb (c .start) k && ltb k (c .start + size c)) + holders k cs
+holders k (c ∷ cs) = digit (leb (c .start) k && ltb k (c .start + size c)) + holders k cs
 
 -- the columns lie one after the other over the bytes from 0 to n - 1, and each of these is in one of them
 pub record Covers (n : ℕ) (cs : List Column) : Type 0 where

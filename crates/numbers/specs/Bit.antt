@@ -1,5 +1,7 @@
 -- The bits of a number. Bit 0 is the lowest, and a number has bits without end: those above its highest set bit are 0.
 use Prim.Native.Nat.{ℕ, zero, suc, _+_, _-_, _*_, _/_, _%_, _^_}
+use mathlib.Core.Bool.{Bool, true, false}
+use mathlib.Core.List.{List, [], _∷_}
 
 -- bit k of n, 0 or 1
 abbrev pub bit : ℕ → ℕ → ℕ
@@ -17,3 +19,13 @@ clearBit n k = n - bit n k * 2 ^ k
 -- n with bit k made 1, and its other bits kept
 abbrev pub setBit : ℕ → ℕ → ℕ
 setBit n k = clearBit n k + 2 ^ k
+
+-- 1 for true, 0 for false
+abbrev pub digit : Bool → ℕ
+digit true = 1
+digit false = 0
+
+-- the number whose bits are given, bit 0 first: true is a one
+unfoldable pub fromBits : List Bool → ℕ
+fromBits [] = 0
+fromBits (b ∷ bs) = digit b + 2 * fromBits bs

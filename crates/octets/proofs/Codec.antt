@@ -1,8 +1,8 @@
 -- Numbers to bytes and back, over the width.
 use Prim.Native.Nat.{ℕ, zero, suc, _+_, _*_, _/_, _%_, _^_, _<_, _≤_}
 use mathlib.Core.Path.{_≡_, refl, sym, ap, ap₂, _∙_}
-use mathlib.Core.List.{List, [], _∷_, _++_}
-use native.Mathlib.Nat.{add-zero, pow-zero, pow-suc, div-div-eq-div-mul, mul-comm, div-add-mod'}
+use mathlib.Core.List.{List, [], _∷_, _++_, append-nil, append-assoc}
+use native.Mathlib.Nat.{add-zero, add-suc, pow-zero, pow-suc, div-div-eq-div-mul, mul-comm, mul-assoc, div-add-mod'}
 use native.Mathlib.Omega.{arith}
 use lib.ListN.{length, getD, take, drop, length-drop, List·getD-append}
 use lib.Seq.{drop-cons, take-suc, getD-drop, getD-take, getD-at, length-take-le, ext-getD}
@@ -24,6 +24,23 @@ octets-last (suc (suc n)) x =
     let e : x / 256 ^ suc (suc n) ≡ x / 256 / 256 ^ suc n =
     ap (λ (p : ℕ). x / p) (pow-suc 256 (suc n) ∙ mul-comm (256 ^ suc n) 256) ∙ sym (div-div-eq-div-mul x 256 (256 ^ suc n)) in
     ap₂ (λ (y : ℕ) (l : List ℕ). y % 256 ∷ l) e (octets-last (suc n) x)
+
+-- two numbers side by side
+pub octets-split : (m n x y : ℕ) → y < 256 ^ n → octetsOf (m + n) (x * 256 ^ n + y) ≡ octetsOf m x ++ octetsOf n y
+octets-split m zero x y h =
+    let e : y ≡ 0 = omega (arith, pow-zero 256) in
+    ap₂ octetsOf (add-zero m) (rw (e, pow-zero 256) (omega arith)) ∙ sym (append-nil (octetsOf m x))
+octets-split m (suc n) x y h =
+    let p : ℕ = 256 ^ n in
+    let e : 256 ^ suc n ≡ p * 256 = pow-suc 256 n in
+    let q : x * 256 ^ suc n ≡ x * p * 256 = ap (λ (k : ℕ). x * k) e ∙ sym (mul-assoc x p 256) in
+    let high : (x * 256 ^ suc n + y) / 256 ≡ x * p + y / 256 = omega arith in
+    let low : (x * 256 ^ suc n + y) % 256 ≡ y % 256 = omega arith in
+    ap (λ (k : ℕ). octetsOf k (x * 256 ^ suc n + y)) (add-suc m n) ∙ octets-last (m + n) (x * 256 ^ suc n + y)
+    ∙ ap₂ (λ (u v : ℕ). octetsOf (m + n) u ++ (v ∷ [])) high low
+    ∙ ap (λ (l : List ℕ). l ++ (y % 256 ∷ [])) (octets-split m n x (y / 256) (omega arith))
+    ∙ append-assoc (octetsOf m x) (octetsOf n (y / 256)) (y % 256 ∷ [])
+    ∙ ap (λ (l : List ℕ). octetsOf m x ++ l) (sym (octets-last n y))
 
 pub part-length : (s : List ℕ) (i n : ℕ) → i + n ≤ length s → length (part s i n) ≡ n
 part-length s i n h = length-take-le n (drop i s) (rw length-drop (omega arith))

@@ -59,6 +59,15 @@ pub table-same : {A : Type 0} (n : ℕ) (f g : ℕ → A) → ((k : ℕ) → f k
 table-same zero f g e = refl
 table-same (suc n) f g e = let t = table-same n (λ k. f (suc k)) (λ k. g (suc k)) (λ k. e (suc k)) in λ i. e 0 i ∷ t i
 
+-- the bytes from an index on: how many, and each
+pub octets-count : (s : List ℕ) (i n : ℕ) → length (octetsAt s i n) ≡ n
+unfolding octetsAt
+octets-count s i n = table-length n (λ k. getD s (i + k) 0)
+
+pub octets-at : (s : List ℕ) (i n k : ℕ) → k < n → getD (octetsAt s i n) k 0 ≡ getD s (i + k) 0
+unfolding octetsAt
+octets-at s i n k h = table-at n (λ k. getD s (i + k) 0) k 0 h
+
 -- bytes are numbers of one byte each
 pub octets-numbers : (s : List ℕ) (i n : ℕ) → octetsAt s i n ≡ natsAt s i 1 n
 unfolding octetsAt natsAt

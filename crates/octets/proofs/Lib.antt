@@ -6,3 +6,4 @@ pub mod Ladder
 pub mod Codec
 pub mod Complement
 pub mod Runs
+pub mod Bits

@@ -3,7 +3,7 @@
 ghost use mathlib.Core.Path.{_≡_};
 ghost use Prim.Native.Nat.{min};
 ghost use Rattle.octets.specs.Bytes.{octetsOf, complemented, put};
-ghost use Rattle.octets.specs.Table.{octetsOfAll};
+ghost use Rattle.octets.specs.Table.{octetsAt, octetsOfAll};
 
 // The bytes of a number of 16 bits.
 pub fn u16_bytes(x: u16) -> [u8; 2]
@@ -105,6 +105,20 @@ fn least(a: usize, b: usize) -> usize
     ensures { λ r. ⌜ r ≡ min a b ⌝ }
 {
     if a < b { a } else { b }
+}
+
+// Stores n bytes, from index i on, in out from index at on; a byte past the end is read as 0.
+pub fn copy_part(bytes: &[u8], i: usize, n: usize, at: usize, out: &mut [u8])
+    ensures { λ _. ⌜ now (out .exit) ≡ put (now (out .entry)) at (octetsAt (now (bytes .entry)) i n) ⌝ }
+{
+    let from = least(i, bytes.len());
+    let to = least(at, out.len());
+    let count = least(n, out.len() - to);
+    let mut k = 0;
+    while k < count {
+        out[to + k] = octets::u8_at(bytes, from + k);
+        k = k + 1;
+    }
 }
 
 // Stores numbers of 16 bits, one after the other, from index i on.

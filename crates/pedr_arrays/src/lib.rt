@@ -12,11 +12,16 @@ use pedr_layout::RADIUS_AT;
 use pedr_layout::REFLECTIVITY_AT;
 use pedr_layout::SHOTS;
 use pedr_layout::TRIGGER_CHANNEL_AT;
+use pedr_layout::UNINTERPRETED;
+use pedr_layout::UNINTERPRETED_509_AT;
+use pedr_layout::UNINTERPRETED_641_AT;
+use pedr_layout::UNINTERPRETED_BEFORE;
 ghost use mathlib.Core.Path.{_≡_};
 ghost use Rattle.octets.specs.Table.{natsAt};
 ghost use Rattle.layout.specs.Column.{values};
 ghost use Rattle.pedr_layout.specs.Layout as columns;
 ghost use Rattle.pedr_arrays.specs.Arrays.{classesOf, encodersOf, shotArraysOf, channelArraysOf, arraysOf, noArrays};
+ghost use Rattle.pedr_arrays.specs.Uninterpreted.{uninterpretedOf};
 
 // The class of one shot. A struct's array may hold structs, not enums.
 pub struct ShotClass {
@@ -161,6 +166,28 @@ pub fn read_arrays(bytes: &[u8]) -> RecordArrays
         xyz: read_xyz(bytes),
         source_header: read_source_header(bytes),
     }
+}
+
+// Reads the bytes that are not interpreted: record bytes 509 to 620, and then 641 to 776. Any bytes; a byte past the end reads as 0.
+pub fn read_uninterpreted(bytes: &[u8]) -> [u8; UNINTERPRETED]
+    ensures { λ r. ⌜ r ≡ uninterpretedOf (now (bytes .entry)) ⌝ }
+{
+    let mut uninterpreted = [0u8; UNINTERPRETED];
+    octets_writer::copy_part(
+        bytes,
+        UNINTERPRETED_509_AT,
+        UNINTERPRETED_BEFORE,
+        0,
+        &mut uninterpreted,
+    );
+    octets_writer::copy_part(
+        bytes,
+        UNINTERPRETED_641_AT,
+        UNINTERPRETED - UNINTERPRETED_BEFORE,
+        UNINTERPRETED_BEFORE,
+        &mut uninterpreted,
+    );
+    uninterpreted
 }
 
 // The arrays of a refusal: all zeros.

@@ -8,9 +8,7 @@ use pedr_layout::TIME_MICROS_AT;
 ghost use mathlib.Core.Path.{_≡_};
 ghost use lib.Dec.{leb};
 ghost use lib.IntN.{natAbs};
-ghost use Rattle.layout.specs.Column.{value};
-ghost use Rattle.pedr_layout.specs.Layout.{timeMicros, latitude};
-ghost use Rattle.pedr_check.specs.Refusal.{recordRefusal};
+ghost use Rattle.pedr_check.specs.Refusal.{valuesRefusal, recordRefusal};
 
 // Whether x lies from -most to most.
 fn is_within(x: i32, most: u32) -> bool
@@ -21,17 +19,23 @@ fn is_within(x: i32, most: u32) -> bool
     -far <= near && near <= far
 }
 
-// The two columns that refusals 13 and 14 look at.
-fn micros(bytes: &[u8]) -> i32
-    ensures { λ r. ⌜ r ≡ value (now (bytes .entry)) timeMicros ⌝ }
+// Refusals 13 to 15 of a frame's microseconds, latitude and frame index, or 0.
+pub fn values_refusal(micros: i32, latitude: i32, frame_index: u16) -> u8
+    ensures { λ r. ⌜ r ≡ valuesRefusal micros latitude «frame_index» ⌝ }
 {
-    octets::i32_at(bytes, TIME_MICROS_AT)
-}
-
-fn latitude(bytes: &[u8]) -> i32
-    ensures { λ r. ⌜ r ≡ value (now (bytes .entry)) latitude ⌝ }
-{
-    octets::i32_at(bytes, LATITUDE_AT)
+    if !is_within(micros, 999_999) {
+        return 13;
+    }
+    if !is_within(latitude, 90_000_000) {
+        return 14;
+    }
+    if frame_index < 1 {
+        return 15;
+    }
+    if 7 < frame_index {
+        return 15;
+    }
+    0
 }
 
 // Refusals 11 to 15, or 0.
@@ -45,18 +49,7 @@ pub fn record_refusal(bytes: &[u8]) -> u8
     if good != octets::u8_at(bytes, QUALITY_COUNTER_AT) as u32 {
         return 12;
     }
-    if !is_within(micros(bytes), 999_999) {
-        return 13;
-    }
-    if !is_within(latitude(bytes), 90_000_000) {
-        return 14;
-    }
-    let frame_index = octets::u16_at(bytes, FRAME_INDEX_AT);
-    if frame_index < 1 {
-        return 15;
-    }
-    if 7 < frame_index {
-        return 15;
-    }
-    0
+    let micros = octets::i32_at(bytes, TIME_MICROS_AT);
+    let latitude = octets::i32_at(bytes, LATITUDE_AT);
+    values_refusal(micros, latitude, octets::u16_at(bytes, FRAME_INDEX_AT))
 }

@@ -1,33 +1,20 @@
--- Each return is one rung of the ladder.
-use Prim.Native.Nat.{ℕ, _<_, _≤_}
+-- Two rungs of the ladder, then the values' own.
 use mathlib.Core.Path.{_≡_, sym, ap, _∙_}
-use mathlib.Core.Bool.{Bool, true, false}
 use mathlib.Core.List.{List}
+use Prim.Native.Nat.{ℕ}
 use denote.Ref.{now}
-use lib.Dec.{leb}
-use lib.IntN.{ℤ, natAbs}
 use mir.Syntax.{w32}
 use borrow.Author.Needs.{needs}
-use borrow.Author.Tests.{leb-true, leb-false, not-true, not-false}
 use Rattle.numbers.proofs.Ranges.{held}
-use Rattle.octets.specs.Refusal.{refuse_unless_else_, within}
 use Rattle.octets.proofs.Ladder.{rungs}
 use Rattle.layout.specs.Column.{value}
-use Rattle.pedr_layout.specs.Layout.{timeMicros, latitude, qualityNumber, qualityCounter, frameIndex}
+use Rattle.pedr_layout.specs.Layout.{qualityNumber, qualityCounter, timeMicros, latitude, frameIndex}
 use Rattle.pedr_flags.specs.Quality.{goodCount}
-use Rattle.pedr_check.specs.Refusal.{recordRefusal}
+use Rattle.pedr_check.specs.Refusal.{valuesRefusal, recordRefusal}
 use Rattle.pedr_check.proofs.record_refusal.Statement.{statement}
 use Rattle.pedr_check.proofs.record_refusal.Tie as tie
 
--- what the test of a call's result shows of the number that it was read from
-module _ (r : Bool) (x y : ℤ) (n : ℕ) (tested : r ≡ leb (natAbs x) n) (read : x ≡ y) where
-  inside : r ≡ true → natAbs y ≤ n
-  inside e = leb-true (natAbs y) n (ap (λ (z : ℤ). leb (natAbs z) n) (sym read) ∙ sym tested ∙ e)
-
-  beyond : r ≡ false → n < natAbs y
-  beyond e = leb-false (natAbs y) n (ap (λ (z : ℤ). leb (natAbs z) n) (sym read) ∙ sym tested ∙ e)
-
--- the record's bytes where its counter has been read, and what each test that it passed shows of them
+-- the record's bytes where its counter has been read, and what its test shows of them
 abbrev record-at : tie.After-u8-at → List ℕ
 record-at c = now (c .before .before .before .before .before .args .bytes)
 
@@ -39,28 +26,6 @@ counted c = sym (good-is (c .before)) ∙ c .if2 .left ∙ c .before .u8-at .ens
 
 miscounted : (c : tie.Then2) → goodCount (value (record-at (c .before)) qualityNumber) ≡ value (record-at (c .before)) qualityCounter → ⊥
 miscounted c e = c .if2 .taken (good-is (c .before) ∙ e ∙ sym (c .before .u8-at .ensures))
-
-micros-inside : (c : tie.Else3) → natAbs (value (record-at (c .before .before .before .before)) timeMicros) ≤ 999999
-micros-inside c =
-    let m = c .before .before .micros in
-    inside _ _ _ 999999 (c .before .is-within .ensures) (held w32 (m .ok) (m .ensures)) (not-false _ (c .if3 .left))
-
-latitude-inside : (c : tie.Else4) → natAbs (value (record-at (c .before .before .before .before .before .before .before)) latitude) ≤ 90000000
-latitude-inside c =
-    let l = c .before .before .latitude in
-    inside _ _ _ 90000000 (c .before .is-within2 .ensures) (held w32 (l .ok) (l .ensures)) (not-false _ (c .if4 .left))
-
--- after the first four tests the frame index decides
-by-frame-index : (c : tie.Else4) (r : ℕ)
-    → r ≡ (refuse 15 unless within 1 7 (value (record-at (c .before .before .before .before .before .before .before)) frameIndex) else 0)
-    → r ≡ recordRefusal (record-at (c .before .before .before .before .before .before .before))
-unfolding recordRefusal
-by-frame-index c r e =
-    let c3 = c .before .before .before in
-    let q = counted (c3 .before .before .before) in
-    let m = micros-inside c3 in
-    let l = latitude-inside c in
-    search rungs depth 10
 
 returns : tie.Need-returns
 unfolding recordRefusal
@@ -75,29 +40,16 @@ returns-2 c =
 returns-3 : tie.Need-returns-3
 unfolding recordRefusal
 returns-3 c =
-    let q = counted (c .before .before .before) in
-    let m = c .before .before .micros in
-    let n = beyond _ _ _ 999999 (c .before .is-within .ensures) (held w32 (m .ok) (m .ensures)) (not-true _ (c .if3 .taken)) in
+    let e = c .before .before .before .before in
+    let s = record-at (e .before) in
+    let q = counted e in
+    let micros = c .before .before .before .i32-at in
+    let lat = c .before .before .i32-at2 in
+    let m = held w32 (micros .ok) (micros .ensures) in
+    let l = held w32 (lat .ok) (lat .ensures) in
+    let v : c .values-refusal .result ≡ valuesRefusal (value s timeMicros) (value s latitude) (value s frameIndex) =
+    c .values-refusal .ensures ∙ (λ i. valuesRefusal (m i) (l i) (c .before .u16-at .ensures i)) in
     search rungs depth 10
-
-returns-4 : tie.Need-returns-4
-unfolding recordRefusal
-returns-4 c =
-    let c3 = c .before .before .before in
-    let q = counted (c3 .before .before .before) in
-    let m = micros-inside c3 in
-    let l = c .before .before .latitude in
-    let n = beyond _ _ _ 90000000 (c .before .is-within2 .ensures) (held w32 (l .ok) (l .ensures)) (not-true _ (c .if4 .taken)) in
-    search rungs depth 10
-
-returns-5 : tie.Need-returns-5
-returns-5 c = by-frame-index (c .before .before) 15 (rw (← c .before .u16-at .ensures) (search rungs depth 3))
-
-returns-6 : tie.Need-returns-6
-returns-6 c = by-frame-index (c .before .before .before) 15 (rw (← c .before .before .u16-at .ensures) (search rungs depth 3))
-
-returns-7 : tie.Need-returns-7
-returns-7 c = by-frame-index (c .before .before .before) 0 (rw (← c .before .before .u16-at .ensures) (search rungs depth 3))
 
 pub record-refusal-spec : {M : Type 1} → statement M
 record-refusal-spec =
@@ -111,11 +63,6 @@ record-refusal-spec =
     returns-2
     (λ c κs. search needs)
     (λ c κs. search needs)
-    returns-3
     (λ c κs. search needs)
     (λ c κs. search needs)
-    returns-4
-    (λ c κs. search needs)
-    returns-5
-    returns-6
-    returns-7)
+    returns-3)
