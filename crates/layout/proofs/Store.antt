@@ -16,14 +16,6 @@ putAll s [] cs = s
 putAll s (p ∷ ps) [] = s
 putAll s (p ∷ ps) (c ∷ cs) = putAll (put s (c .start) p) ps cs
 
--- stored in two steps
-pub put-append : (ps qs : List (List ℕ)) (cs ds : List Column) (s : List ℕ) → length ps ≡ length cs
-    → putAll (putAll s ps cs) qs ds ≡ putAll s (ps ++ qs) (cs ++ ds)
-put-append [] qs [] ds s e = refl
-put-append [] qs (c ∷ cs) ds s e = absurd (omega arith)
-put-append (p ∷ ps) qs [] ds s e = absurd (omega arith)
-put-append (p ∷ ps) qs (c ∷ cs) ds s e = put-append ps qs cs ds (put s (c .start) p) (omega arith)
-
 -- behind the bytes x
 put-after : (ps : List (List ℕ)) (cs : List Column) (s x : List ℕ) (a b : ℕ) → tiles a b cs ≡ true → a ≡ length x → Fit ps cs
     → putAll (put s 0 x) ps cs ≡ put s 0 (x ++ join ps)
@@ -41,3 +33,17 @@ pub put-join : (ps : List (List ℕ)) (cs : List Column) (s : List ℕ) (b : ℕ
 put-join ps cs s b t f e =
     ap (λ (z : List ℕ). putAll z ps cs) (sym (put-nothing s 0)) ∙ put-after ps cs s [] 0 b t refl f
     ∙ put-whole s (join ps) (omega (arith, join-length ps cs 0 b t f))
+
+-- t is s with each part stored at its column, one after the other
+infixr 5 _▸_
+pub data Puts : List ℕ → List (List ℕ) → List Column → List ℕ → Type 0 where
+  stop : {s : List ℕ} → Puts s [] [] s
+  _▸_ : {s t u p : List ℕ} {ps : List (List ℕ)} {c : Column} {cs : List Column} → t ≡ put s (c .start) p → Puts t ps cs u → Puts s (p ∷ ps) (c ∷ cs) u
+
+-- that is one store of the parts joined
+pub puts-join : {s t : List ℕ} {ps : List (List ℕ)} {cs : List Column} (a b : ℕ) → tiles a b cs ≡ true → Fit ps cs → Puts s ps cs t → t ≡ put s a (join ps)
+puts-join {s} a b t done stop = sym (put-nothing s a)
+puts-join {s} {cs = c ∷ cs} a b t (_▹_ {p} {ps} l f) (_▸_ {t = m} {u} e r) =
+    let q = first c cs a b t in
+    puts-join (a + size c) b (q .1) f r ∙ ap (λ (z : List ℕ). put z (a + size c) (join ps)) (e ∙ ap (λ (i : ℕ). put s i p) (q .0))
+    ∙ put-then p s (join ps) a (a + size c) (omega (arith, l))

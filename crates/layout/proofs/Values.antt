@@ -9,7 +9,7 @@ use lib.Pow.{pow-add}
 use lib.ListN.{length, getD, length-map, List·getD-map}
 use Rattle.octets.specs.Bytes.{natAt, intAt, signed, complemented, octetsOf, part, Octets, SignedFits}
 use Rattle.octets.specs.Table.{table, natsAt, intsAt, octetsOfAll}
-use Rattle.octets.proofs.Fill.{table-same}
+use Rattle.octets.proofs.Fill.{table-same, map-table}
 use Rattle.octets.proofs.Read.{nat-lt}
 use Rattle.octets.proofs.Codec.{octets-length, write-read, read-write}
 use Rattle.octets.proofs.Complement.{complemented-lt, signed-complemented, complemented-signed}
@@ -29,11 +29,6 @@ number-length complement w z = octets-length w (complemented (8 * w) z)
 pub numbers-length : (g : Sign) (w : ℕ) (xs : List (Number g)) → length (numbersOctets g w xs) ≡ w * length xs
 numbers-length unsigned w xs = all-length w xs
 numbers-length complement w zs = all-length w (map (complemented (8 * w)) zs) ∙ ap (λ (n : ℕ). w * n) (length-map zs (complemented (8 * w)))
-
--- a rule applied to each element of a table
-map-table : {A B : Type 0} (f : A → B) (n : ℕ) (g : ℕ → A) → map f (table n g) ≡ table n (λ k. f (g k))
-map-table f zero g = refl
-map-table {A} {B} f (suc n) g = ap (λ (l : List B). f (g 0) ∷ l) (map-table f n (λ k. g (suc k)))
 
 -- integers that fit, as bits and back
 map-back : (b : ℕ) (zs : List ℤ) → 1 ≤ b → ((k : ℕ) → SignedFits b (getD zs k (pos 0))) → map (signed b) (map (complemented b) zs) ≡ zs

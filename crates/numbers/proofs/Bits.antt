@@ -180,6 +180,12 @@ ones-bits n (suc k) =
     ∙ ap₂ (λ (x y : ℕ). x + y) (ones-digit (bit n k) (bit-lt n k)) (ones-bits n k)
     ∙ add-comm (bit n k) (bitsSet n k)
 
+-- of k bits at most k are set
+pub bits-set-le : (n k : ℕ) → bitsSet n k ≤ k
+unfolding bitsSet
+bits-set-le n zero = omega arith
+bits-set-le n (suc k) = omega (arith, bits-set-le n k, bit-lt n k)
+
 -- ---- masks of low bits
 
 -- the masks that a program writes out take a remainder

@@ -1,7 +1,7 @@
 -- A list filled from the front by a loop, one element a turn, until it is a table: one law for every element type, length and rule.
 use Prim.Native.Nat.{ℕ, zero, suc, _+_, _<_, _≤_}
 use mathlib.Core.Path.{_≡_, refl, sym, ap, _∙_}
-use mathlib.Core.List.{List, [], _∷_}
+use mathlib.Core.List.{List, [], _∷_, map}
 use native.Mathlib.Nat.{not-suc-le-zero, le-of-suc-le-suc, one-mul}
 use native.Mathlib.Numerals.{add-one}
 use native.Mathlib.Omega.{arith}
@@ -58,6 +58,16 @@ table-at (suc n) f (suc j) d h = table-at n (λ k. f (suc k)) j d (le-of-suc-le-
 pub table-same : {A : Type 0} (n : ℕ) (f g : ℕ → A) → ((k : ℕ) → f k ≡ g k) → table n f ≡ table n g
 table-same zero f g e = refl
 table-same (suc n) f g e = let t = table-same n (λ k. f (suc k)) (λ k. g (suc k)) (λ k. e (suc k)) in λ i. e 0 i ∷ t i
+
+-- a rule applied to each element of a list is the table of the rule at the elements
+pub table-map : {A B : Type 0} (g : A → B) (xs : List A) (d : A) → table (length xs) (λ k. g (getD xs k d)) ≡ map g xs
+table-map g [] d = refl
+table-map {A} {B} g (x ∷ xs) d = ap (λ (l : List B). g x ∷ l) (table-map g xs d)
+
+-- and to each element of a table
+pub map-table : {A B : Type 0} (g : A → B) (n : ℕ) (f : ℕ → A) → map g (table n f) ≡ table n (λ k. g (f k))
+map-table g zero f = refl
+map-table {A} {B} g (suc n) f = ap (λ (l : List B). g (f 0) ∷ l) (map-table g n (λ k. f (suc k)))
 
 -- the bytes from an index on: how many, and each
 pub octets-count : (s : List ℕ) (i n : ℕ) → length (octetsAt s i n) ≡ n

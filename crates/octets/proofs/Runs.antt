@@ -2,7 +2,7 @@
 use Prim.Native.Nat.{ℕ, zero, suc, _+_, _*_, _^_, _<_, _≤_}
 use mathlib.Core.Path.{_≡_, refl, sym, ap, ap₂, _∙_}
 use mathlib.Core.List.{List, [], _∷_, _++_, append-nil, append-assoc}
-use native.Mathlib.Nat.{mul-zero, mul-suc}
+use native.Mathlib.Nat.{mul-zero, mul-suc, mod-eq-of-lt}
 use native.Mathlib.Omega.{arith}
 use lib.ListN.{length, getD, take, drop, length-append}
 use lib.Seq.{take-add, take-at, drop-at, drop-drop}
@@ -68,3 +68,9 @@ read-write-all w (x ∷ xs) s i h b e =
 pub all-one : (w x : ℕ) → octetsOfAll w (x ∷ []) ≡ octetsOf w x
 unfolding octetsOfAll
 all-one w x = append-nil (octetsOf w x)
+
+-- bytes are their own bytes
+pub all-bytes : (xs : List ℕ) → Octets xs → octetsOfAll 1 xs ≡ xs
+unfolding octetsOfAll
+all-bytes [] o = refl
+all-bytes (x ∷ xs) o = ap₂ (λ (y : ℕ) (l : List ℕ). y ∷ l) (mod-eq-of-lt (o 0)) (all-bytes xs (λ k. o (suc k)))

@@ -1,5 +1,6 @@
 -- A list given by a rule for each index.
 use Prim.Native.Nat.{ℕ, zero, suc, _+_, _*_}
+use mathlib.Core.Bool.{Bool, true, _&&_}
 use mathlib.Core.List.{List, [], _∷_, _++_}
 use lib.IntN.{ℤ}
 use lib.ListN.{getD}
@@ -9,6 +10,11 @@ use Rattle.octets.specs.Bytes.{natAt, intAt, octetsOf}
 abbrev pub table : {A : Type 0} → ℕ → (ℕ → A) → List A
 table zero f = []
 table (suc n) f = f 0 ∷ table n (λ k. f (suc k))
+
+-- p holds of each element
+unfoldable pub each : {A : Type 0} → (A → Bool) → List A → Bool
+each p [] = true
+each p (x ∷ xs) = p x && each p xs
 
 -- the n bytes of s from index i on, a byte past the end being 0
 unfoldable pub octetsAt : List ℕ → ℕ → ℕ → List ℕ

@@ -121,6 +121,13 @@ pub fn copy_part(bytes: &[u8], i: usize, n: usize, at: usize, out: &mut [u8])
     }
 }
 
+// Stores bytes from index i on, as numbers of 8 bits.
+pub fn write_u8s(numbers: &[u8], i: usize, out: &mut [u8])
+    ensures { λ _. ⌜ now (out .exit) ≡ put (now (out .entry)) i (octetsOfAll 1 (now (numbers .entry))) ⌝ }
+{
+    octets::write_into(numbers, i, out);
+}
+
 // Stores numbers of 16 bits, one after the other, from index i on.
 pub fn write_u16s(numbers: &[u16], i: usize, out: &mut [u8])
     ensures { λ _. ⌜ now (out .exit) ≡ put (now (out .entry)) i (octetsOfAll 2 (now (numbers .entry))) ⌝ }

@@ -8,6 +8,7 @@ ghost use mathlib.Core.Path.{_≡_};
 ghost use Prim.Native.Nat.{_+_, _*_, _^_, _<_};
 ghost use mathlib.Core.List.{map};
 ghost use Rattle.numbers.specs.Bit.{digit, fromBits};
+ghost use Rattle.pedr_flags.specs.Quality.{goodCount};
 ghost use Rattle.pedr_flags_writer.specs.Quality.{qualityBits};
 ghost use Rattle.pedr_flags_writer.specs.Encoder.{encoderByte};
 ghost use Rattle.pedr_flags_writer.specs.Descriptor.{descriptorBits};
@@ -19,10 +20,17 @@ pub struct DescriptorWords {
 }
 
 // The number of a quality's good and carried bits; bits over their widths are left out.
-pub fn quality_bits(quality: Quality) -> u32
+fn quality_bits(quality: Quality) -> u32
     ensures { λ r. ⌜ r ≡ qualityBits quality ⌝ }
 {
     quality.good % 1048576 + (quality.carried % 16) as u32 * 1048576
+}
+
+// The four bytes of a quality as one number: its bits, and the counter, which is worked out.
+pub fn quality_word(quality: Quality) -> u32
+    ensures { λ r. ⌜ r ≡ qualityBits quality * 256 + goodCount (quality .good) ⌝ }
+{
+    quality_bits(quality) * 256 + pedr_flags::good_count(quality.good)
 }
 
 // The byte of the encoder bits; bits over two are left out.
