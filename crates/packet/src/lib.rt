@@ -35,6 +35,7 @@ pub struct PacketFields {
 }
 
 // The free fields that are arrays; the bins in bin order.
+#[repr(C)]
 pub struct PacketArrays {
     pub temperatures: [u8; TEMPERATURES],
     pub readings: [u8; READINGS],

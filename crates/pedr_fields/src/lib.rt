@@ -9,12 +9,14 @@ ghost use Rattle.pedr_fields.specs.Fields.{timeOf, positionOf, pointingO
 ghost use Rattle.pedr_fields.specs.Time.{timeInMicros};
 
 // The frame's mid-point, in seconds and microseconds since J2000; either may be negative.
+#[repr(C)]
 pub struct FrameTime {
     pub whole: i32,
     pub micros: i32,
 }
 
 // The orbit, where the spacecraft is, and where the frame's mid-point meets the ground.
+#[repr(C)]
 pub struct OrbitPosition {
     pub orbit: u32,
     pub latitude: i32,
@@ -25,6 +27,7 @@ pub struct OrbitPosition {
 }
 
 // Where the instrument points.
+#[repr(C)]
 pub struct Pointing {
     pub right_ascension: i32,
     pub declination: i32,
@@ -32,6 +35,7 @@ pub struct Pointing {
 }
 
 // The frame's range and radius, and the range gate.
+#[repr(C)]
 pub struct Ranges {
     pub mid_point_range: u32,
     pub frame_radius: u32,
@@ -40,6 +44,7 @@ pub struct Ranges {
 }
 
 // The receiver and its tracking algorithm.
+#[repr(C)]
 pub struct Receiver {
     pub channel_mask: u16,
     pub minimum_hits: u16,
@@ -50,6 +55,7 @@ pub struct Receiver {
 }
 
 // The time of the packet that the frame came in.
+#[repr(C)]
 pub struct PacketLink {
     pub seconds: i32,
     pub millis: i16,
@@ -57,6 +63,7 @@ pub struct PacketLink {
 }
 
 // The columns that are single numbers.
+#[repr(C)]
 pub struct RecordFields {
     pub time: FrameTime,
     pub position: OrbitPosition,
