@@ -41,9 +41,13 @@ pub data Puts : List ℕ → List (List ℕ) → List Column → List ℕ → Ty
   _▸_ : {s t u p : List ℕ} {ps : List (List ℕ)} {c : Column} {cs : List Column} → t ≡ put s (c .start) p → Puts t ps cs u → Puts s (p ∷ ps) (c ∷ cs) u
 
 -- that is one store of the parts joined
-pub puts-join : {s t : List ℕ} {ps : List (List ℕ)} {cs : List Column} (a b : ℕ) → tiles a b cs ≡ true → Fit ps cs → Puts s ps cs t → t ≡ put s a (join ps)
-puts-join {s} a b t done stop = sym (put-nothing s a)
-puts-join {s} {cs = c ∷ cs} a b t (_▹_ {p} {ps} l f) (_▸_ {t = m} {u} e r) =
+pub puts-join : (ps : List (List ℕ)) (cs : List Column) {s t : List ℕ} (a b : ℕ) → tiles a b cs ≡ true → Fit ps cs → Puts s ps cs t → t ≡ put s a (join ps)
+puts-join [] [] {s} a b t done stop = sym (put-nothing s a)
+puts-join (p ∷ ps) (c ∷ cs) {s} a b t (l ▹ f) (e ▸ r) =
     let q = first c cs a b t in
-    puts-join (a + size c) b (q .1) f r ∙ ap (λ (z : List ℕ). put z (a + size c) (join ps)) (e ∙ ap (λ (i : ℕ). put s i p) (q .0))
+    puts-join ps cs (a + size c) b (q .1) f r ∙ ap (λ (z : List ℕ). put z (a + size c) (join ps)) (e ∙ ap (λ (i : ℕ). put s i p) (q .0))
     ∙ put-then p s (join ps) a (a + size c) (omega (arith, l))
+
+-- one store of two parts, as two
+pub put-both : (a b s t : List ℕ) (i k : ℕ) → i + length a ≡ k → t ≡ put s i (a ++ b) → t ≡ put (put s i a) k b
+put-both a b s t i k l e = e ∙ sym (put-then a s b i k l)

@@ -76,7 +76,7 @@ fn i16_bits(x: i16) -> u16
 }
 
 // The bits of a signed number of 32 bits in two's complement.
-fn i32_bits(x: i32) -> u32
+pub fn i32_bits(x: i32) -> u32
     ensures { λ r. ⌜ r ≡ complemented 32 x ⌝ }
 {
     if x < 0 {

@@ -74,7 +74,7 @@ fn shot_words(failures: [ShotFailures; SHOTS]) -> DescriptorWords
 
 // The descriptor of a frame's tests and carried bits and of its shots' tests; carried bits over 24 are left out.
 pub fn descriptor_words(descriptor: Descriptor, failures: [ShotFailures; SHOTS]) -> DescriptorWords
-    ensures { λ r. ⌜ r .high * 2 ^ 64 + r .low ≡ fromBits (descriptorBits descriptor failures) ⌝ }
+    ensures { λ r. ⌜ (r .high * 2 ^ 64 + r .low ≡ fromBits (descriptorBits descriptor failures)) × (r .low < 2 ^ 64) ⌝ }
 {
     let shots = shot_words(failures);
     let carried = (descriptor.carried % 16777216) as u64;

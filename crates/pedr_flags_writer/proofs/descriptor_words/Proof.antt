@@ -19,7 +19,7 @@ returns c =
     let fs = s .args .failures in
     let high : c .before .before .before .before .before .before .before .shot-words .result .high + d .carried % 2 ^ 24 * 2 ^ 40 ≡ highWord d fs (shots s) =
     omega arith in
-    ap₂ (λ (h l : ℕ). h * 2 ^ 64 + l) high (omega arith) ∙ sym (two-words d fs (shots s))
+    (ap₂ (λ (h l : ℕ). h * 2 ^ 64 + l) high (omega arith) ∙ sym (two-words d fs (shots s)), omega arith)
 
 pub descriptor-words-spec : {M : Type 1} → statement M
 descriptor-words-spec =

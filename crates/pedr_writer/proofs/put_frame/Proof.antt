@@ -1,0 +1,51 @@
+-- The descriptor by two stores, then one for each column.
+use mathlib.Core.Path.{_≡_, refl, sym, ap, _∙_}
+use denote.Ref.{now}
+use lib.ListN.{length}
+use mir.Syntax.{w32}
+use mir.Val.{SFits}
+use Rattle.octets.proofs.Store.{put-length}
+use Rattle.pedr_writer.specs.Parts.{frameParts}
+use Rattle.pedr_writer.proofs.Fits.{frameColumns, frame-fits}
+use Rattle.pedr_writer.proofs.Stores.{signed-stored, descriptor-stored}
+use Rattle.layout.proofs.Store.{Puts, stop, _▸_, puts-join}
+use borrow.Author.Needs.{needs}
+use Rattle.pedr_writer.proofs.put_frame.Statement.{statement}
+use Rattle.pedr_writer.proofs.put_frame.Tie as tie
+
+-- the signed fields and the array's length, by their types
+fit : (s : tie.Start) → SFits w32 (s .args .fields .pointing .«right_ascension») × SFits w32 (s .args .fields .pointing .declination)
+    × SFits w32 (s .args .fields .pointing .twist)
+fit s = let pointing = s .good .0 .1 .1 .1 .1 .1 .1 .0 in (search needs, search needs, search needs)
+
+radii : (s : tie.Start) → length (s .args .shots .radius) ≡ 20
+radii s = let radius = s .good .1 .0 .1 .1 .0 in search needs
+
+returns : tie.Need-returns
+returns c =
+    let s = c .before .before .before .before .before .before .before .before .before .before .before .before .before .before .before .before .before .before .before .before .before .before .before .before .before .before .before .before .before .before .before .before .before .before .before .before .before .before in
+    let f = fit s in
+    let w = c .before .before .before .before .before .before .before .before .before .before .before .before .before .before .before .before .before .before .before .before .before .before .before .before .before .before .before .before .before .before .before .descriptor-words .ensures in
+    puts-join (frameParts (s .args .fields) (s .args .shots)) frameColumns 32 144 refl (frame-fits (s .args .fields) (s .args .shots) (radii s))
+    (descriptor-stored (s .args .fields .descriptor) (s .args .shots .failures) _ _ _ _ _ (w .0) (w .1) (c .before .before .before .before .before .before .before .before .before .before .before .before .before .before .before .before .before .before .before .before .before .before .before .before .before .before .before .before .before .write-u64 .ensures) (c .before .before .before .before .before .before .before .before .before .before .before .before .before .before .before .before .before .before .before .before .before .before .before .before .before .write-u642 .ensures)
+    ▸ c .before .before .before .before .before .before .before .before .before .before .before .before .before .before .before .before .before .before .before .before .before .put-u32x20 .ensures
+    ▸ c .before .before .before .before .before .before .before .before .before .before .before .before .before .before .before .before .before .write-u32 .ensures
+    ▸ signed-stored w32 4 32 (s .args .fields .pointing .«right_ascension») _ _ _ (f .0) (c .before .before .before .before .before .before .before .before .before .before .before .before .write-i32 .ensures)
+    ▸ signed-stored w32 4 32 (s .args .fields .pointing .declination) _ _ _ (f .1) (c .before .before .before .before .before .before .before .write-i322 .ensures)
+    ▸ signed-stored w32 4 32 (s .args .fields .pointing .twist) _ _ _ (f .2) (c .before .before .write-i323 .ensures)
+    ▸ stop)
+
+pub put-frame-spec : {M : Type 1} → statement M
+put-frame-spec =
+    tie.close
+    (tie.spec
+    (λ c κs. search needs)
+    (λ c κs. search needs)
+    (λ c κs. search needs)
+    (λ c κs. search needs)
+    (λ c κs. search needs)
+    (λ c κs. search needs)
+    (λ c κs. search needs)
+    (λ c κs. search needs)
+    (λ c. ap length (returns c) ∙ put-length _ _ _)
+    returns)

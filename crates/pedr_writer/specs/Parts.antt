@@ -1,0 +1,119 @@
+-- Request 1, "Precision records written": every field read, the carried bits and the uninterpreted bytes. The bytes of the record's columns, in the order of
+-- its table.
+use Prim.Native.Nat.{ℕ}
+use mathlib.Core.List.{List, [], _∷_, _++_, map}
+use lib.ListN.{take, drop}
+use Rattle.layout.specs.Column.{holding, holdingAll, join}
+use Rattle.pedr_layout.specs.Layout as columns
+use Rattle.pedr_flags.specs.Class.{classNumber}
+use Rattle.pedr_flags.specs.Quality.{goodCount}
+use Rattle.pedr_flags_writer.specs.Quality.{qualityBits}
+use Rattle.pedr_flags_writer.specs.Descriptor.{descriptorOctets}
+use Rattle.pedr_flags_writer.specs.Encoder.{encoderByte}
+use Rattle.pedr_flags.specs.declared.Encoder.{Encoder}
+use Rattle.pedr_arrays.specs.declared.ShotClass.{ShotClass}
+use Rattle.pedr_arrays.specs.declared.ShotArrays.{ShotArrays}
+use Rattle.pedr_arrays.specs.declared.ChannelArrays.{ChannelArrays}
+use Rattle.pedr_arrays.specs.declared.RecordArrays.{RecordArrays}
+use Rattle.pedr_fields.specs.declared.RecordFields.{RecordFields}
+
+-- bytes 1 to 32. The writer works out the quality counter itself: the number of ones in bits 0 to 19
+abbrev pub headParts : RecordFields → List (List ℕ)
+headParts f =
+    holding columns.timeWhole (f .time .whole)
+    ∷ holding columns.timeMicros (f .time .micros)
+    ∷ holding columns.orbit (f .position .orbit)
+    ∷ holding columns.latitude (f .position .latitude)
+    ∷ holding columns.longitude (f .position .longitude)
+    ∷ holding columns.radialDistance (f .position .«radial_distance»)
+    ∷ holding columns.midPointRange (f .ranges .«mid_point_range»)
+    ∷ holding columns.qualityNumber (qualityBits (f .quality))
+    ∷ holding columns.qualityCounter (goodCount (f .quality .good))
+    ∷ []
+
+-- bytes 33 to 144
+abbrev pub frameParts : RecordFields → ShotArrays → List (List ℕ)
+frameParts f s =
+    descriptorOctets (f .descriptor) (s .failures)
+    ∷ holdingAll columns.radius (s .radius)
+    ∷ holding columns.frameRadius (f .ranges .«frame_radius»)
+    ∷ holding columns.rightAscension (f .pointing .«right_ascension»)
+    ∷ holding columns.declination (f .pointing .declination)
+    ∷ holding columns.twist (f .pointing .twist)
+    ∷ []
+
+-- bytes 145 to 324
+abbrev pub pulseParts : ShotArrays → List (List ℕ)
+pulseParts s =
+    holdingAll columns.energy (s .energy)
+    ∷ holdingAll columns.reflectivity (s .reflectivity)
+    ∷ holdingAll columns.triggerChannel (s .«trigger_channel»)
+    ∷ holdingAll columns.pulseWidth (s .«pulse_width»)
+    ∷ holdingAll columns.opticalWidth (s .«optical_width»)
+    ∷ []
+
+-- the number of a shot's class
+abbrev pub shotClassNumber : ShotClass → ℕ
+shotClassNumber c = classNumber (c .class)
+
+-- bytes 325 to 424
+abbrev pub groundParts : RecordFields → RecordArrays → List (List ℕ)
+groundParts f a =
+    holdingAll columns.xyz (a .xyz)
+    ∷ holdingAll columns.ground (f .position .«ground_latitude» ∷ f .position .«ground_longitude» ∷ [])
+    ∷ holdingAll columns.laserPower (a .shots .«laser_power»)
+    ∷ holdingAll columns.class (map shotClassNumber (a .shots .class))
+    ∷ []
+
+-- bytes 425 to 480
+abbrev pub gateParts : RecordFields → ChannelArrays → List (List ℕ)
+gateParts f c =
+    holdingAll columns.noise (c .noise)
+    ∷ holding columns.delay (f .ranges .delay)
+    ∷ holding columns.width (f .ranges .width)
+    ∷ holdingAll columns.thresholds (c .thresholds)
+    ∷ []
+
+-- bytes 481 to 492
+abbrev pub receiverParts : RecordFields → List (List ℕ)
+receiverParts f =
+    holding columns.channelMask (f .receiver .«channel_mask»)
+    ∷ holding columns.minimumHits (f .receiver .«minimum_hits»)
+    ∷ holding columns.hitCount (f .receiver .«hit_count»)
+    ∷ holding columns.frameCounter (f .receiver .«frame_counter»)
+    ∷ holding columns.trigger (f .receiver .trigger)
+    ∷ holding columns.frameIndex (f .receiver .«frame_index»)
+    ∷ []
+
+-- bytes 493 to 508
+abbrev pub linkParts : RecordFields → List ℕ → List (List ℕ)
+linkParts f header =
+    holdingAll columns.sourceHeader header
+    ∷ holding columns.packetSeconds (f .link .seconds)
+    ∷ holding columns.packetMillis (f .link .millis)
+    ∷ holding columns.fineTime (f .link .«fine_time»)
+    ∷ []
+
+-- bytes 509 to 776: the uninterpreted bytes on both sides of the encoder bytes
+abbrev pub tailParts : List Encoder → List ℕ → List (List ℕ)
+tailParts es x =
+    take (columns.uninterpreted509 .items) x
+    ∷ holdingAll columns.encoder (map encoderByte es)
+    ∷ drop (columns.uninterpreted509 .items) x
+    ∷ []
+
+-- all of them
+abbrev pub recordParts : RecordFields → RecordArrays → List ℕ → List (List ℕ)
+recordParts f a x =
+    headParts f
+    ++ (frameParts f (a .shots)
+    ++ (pulseParts (a .shots)
+    ++ (groundParts f a
+    ++ (gateParts f (a .channels)
+    ++ (receiverParts f
+    ++ (linkParts f (a .«source_header»)
+    ++ tailParts (a .shots .encoder) x))))))
+
+-- the record's 776 bytes
+unfoldable pub recordOf : RecordFields → RecordArrays → List ℕ → List ℕ
+recordOf f a x = join (recordParts f a x)

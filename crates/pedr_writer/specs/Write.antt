@@ -1,0 +1,22 @@
+-- Request 1: what is due of the writer. A refusal writes no byte.
+use Prim.Native.Nat.{ℕ}
+use mathlib.Core.List.{List}
+use Rattle.octets.specs.Refusal.{Said, refused, answered, say, after}
+use Rattle.pedr_arrays.specs.declared.RecordArrays.{RecordArrays}
+use Rattle.pedr_fields.specs.declared.RecordFields.{RecordFields}
+use Rattle.pedr_write_check.specs.Refusal.{writeRefusal}
+use Rattle.pedr_writer.specs.Parts.{recordOf}
+use Rattle.pedr_writer.specs.declared.RecordWritten.{RecordWritten}
+use Rattle.pedr_writer.specs.declared.RecordWritten.the-variants.{Refused, Written}
+
+-- the number that each case of the answer stands for
+abbrev pub writtenSaid : RecordWritten → Said (Unit {0})
+writtenSaid (Refused n) = refused n
+writtenSaid Written = answered tt
+
+-- what is due of the writer, and the bytes then in the output
+abbrev pub writeDue : RecordFields → RecordArrays → List ℕ → List ℕ → Said (Unit {0})
+writeDue f a x out = say (writeRefusal f a x out) tt
+
+abbrev pub writeBytes : RecordFields → RecordArrays → List ℕ → List ℕ → List ℕ
+writeBytes f a x out = after (writeRefusal f a x out) (recordOf f a x) out
