@@ -63,7 +63,12 @@ fn have_two_bits(encoders: [Encoder; SHOTS]) -> bool
 }
 
 // Refusals 13 to 15, 40, 49 and 41, or 0.
-pub fn write_refusal(fields: RecordFields, arrays: RecordArrays, uninterpreted: &[u8], out: &[u8]) -> u8
+pub fn write_refusal(
+    fields: RecordFields,
+    arrays: RecordArrays,
+    uninterpreted: &[u8],
+    out: &[u8],
+) -> u8
     ensures { λ r. ⌜ r ≡ writeRefusal fields arrays (now (uninterpreted .entry)) (now (out .entry)) ⌝ }
 {
     let time = fields.time;

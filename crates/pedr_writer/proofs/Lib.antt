@@ -1,2 +1,3 @@
 pub mod Stores
 pub mod Fits
+pub mod Whole

@@ -224,3 +224,43 @@ fn put_tail(encoders: [Encoder; SHOTS], uninterpreted: &[u8], out: &mut [u8])
         out,
     );
 }
+
+// The record's 776 bytes.
+fn put_record(fields: RecordFields, arrays: RecordArrays, uninterpreted: &[u8], out: &mut [u8])
+    requires { ⌜ (length (now uninterpreted) ≡ 248) × (length (now out) ≡ 776) ⌝ }
+    ensures { λ _. ⌜ now (out .exit) ≡ parts.recordOf fields arrays (now (uninterpreted .entry)) ⌝ }
+{
+    let shots = arrays.shots;
+    let channels = arrays.channels;
+    let noise = channels.noise;
+    let thresholds = channels.thresholds;
+    let source_header = arrays.source_header;
+    let encoders = shots.encoder;
+    put_head(fields, out);
+    put_frame(fields, shots, out);
+    put_pulses(shots, out);
+    put_ground(fields, arrays, out);
+    put_gate(fields, noise, thresholds, out);
+    put_receiver(fields, out);
+    put_link(fields, source_header, out);
+    put_tail(encoders, uninterpreted, out);
+}
+
+// Writes a record. Any fields and arrays, any uninterpreted bytes (record bytes 509 to 620, and then 641 to 776), any output; the quality counter is worked
+// out, not taken from the fields. On a refusal the output stays.
+pub fn write_record(
+    fields: RecordFields,
+    arrays: RecordArrays,
+    uninterpreted: &[u8],
+    out: &mut [u8],
+) -> RecordWritten
+    ensures { λ r. ⌜ (writtenSaid r ≡ writeDue fields arrays (now (uninterpreted .entry)) (now (out .entry)))
+        × (now (out .exit) ≡ writeBytes fields arrays (now (uninterpreted .entry)) (now (out .entry))) ⌝ }
+{
+    let n = pedr_write_check::write_refusal(fields, arrays, uninterpreted, out);
+    if n != 0 {
+        return RecordWritten::Refused(n);
+    }
+    put_record(fields, arrays, uninterpreted, out);
+    RecordWritten::Written
+}
