@@ -2,7 +2,7 @@
 use Prim.Native.Nat.{ℕ, zero, suc, _+_, _*_, _/_, _%_, _^_, _<_, _≤_}
 use mathlib.Core.Path.{_≡_, refl, sym, ap, ap₂, _∙_}
 use mathlib.Core.List.{List, [], _∷_, _++_, append-nil, append-assoc}
-use native.Mathlib.Nat.{add-zero, add-suc, pow-zero, pow-suc, div-div-eq-div-mul, mul-comm, mul-assoc, div-add-mod'}
+use native.Mathlib.Nat.{add-zero, add-suc, pow-zero, pow-suc, div-div-eq-div-mul, mul-comm, mul-assoc, mod-lt, div-add-mod'}
 use native.Mathlib.Omega.{arith}
 use lib.ListN.{length, getD, take, drop, length-drop, List·getD-append}
 use lib.Seq.{drop-cons, take-suc, getD-drop, getD-take, getD-at, length-take-le, ext-getD}
@@ -24,6 +24,14 @@ octets-last (suc (suc n)) x =
     let e : x / 256 ^ suc (suc n) ≡ x / 256 / 256 ^ suc n =
     ap (λ (p : ℕ). x / p) (pow-suc 256 (suc n) ∙ mul-comm (256 ^ suc n) 256) ∙ sym (div-div-eq-div-mul x 256 (256 ^ suc n)) in
     ap₂ (λ (y : ℕ) (l : List ℕ). y % 256 ∷ l) e (octets-last (suc n) x)
+
+-- each is a byte
+pub octets-bytes : (n x : ℕ) → Octets (octetsOf n x)
+octets-bytes zero x k = omega arith
+octets-bytes (suc zero) x zero = mod-lt x (omega arith)
+octets-bytes (suc zero) x (suc k) = omega arith
+octets-bytes (suc (suc n)) x zero = mod-lt (x / 256 ^ suc n) (omega arith)
+octets-bytes (suc (suc n)) x (suc k) = octets-bytes (suc n) x k
 
 -- two numbers side by side
 pub octets-split : (m n x y : ℕ) → y < 256 ^ n → octetsOf (m + n) (x * 256 ^ n + y) ≡ octetsOf m x ++ octetsOf n y

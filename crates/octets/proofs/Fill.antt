@@ -59,6 +59,19 @@ pub table-same : {A : Type 0} (n : ℕ) (f g : ℕ → A) → ((k : ℕ) → f k
 table-same zero f g e = refl
 table-same (suc n) f g e = let t = table-same n (λ k. f (suc k)) (λ k. g (suc k)) (λ k. e (suc k)) in λ i. e 0 i ∷ t i
 
+-- it is enough that they agree at the table's own indices
+pub table-below : {A : Type 0} (n : ℕ) (f g : ℕ → A) → ((k : ℕ) → k < n → f k ≡ g k) → table n f ≡ table n g
+table-below zero f g e = refl
+table-below (suc n) f g e =
+    let z = e 0 (omega arith) in
+    let t = table-below n (λ k. f (suc k)) (λ k. g (suc k)) (λ k h. e (suc k) (omega arith)) in
+    λ i. z i ∷ t i
+
+-- a list is the table of its elements
+pub table-self : {A : Type 0} (xs : List A) (d : A) → table (length xs) (λ k. getD xs k d) ≡ xs
+table-self [] d = refl
+table-self {A} (x ∷ xs) d = ap (λ (l : List A). x ∷ l) (table-self xs d)
+
 -- a rule applied to each element of a list is the table of the rule at the elements
 pub table-map : {A B : Type 0} (g : A → B) (xs : List A) (d : A) → table (length xs) (λ k. g (getD xs k d)) ≡ map g xs
 table-map g [] d = refl

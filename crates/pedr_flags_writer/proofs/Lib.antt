@@ -1,2 +1,4 @@
 pub mod Shots
 pub mod Descriptor
+pub mod Codes
+pub mod DescriptorRead
