@@ -8,7 +8,7 @@ use native.Mathlib.Nat.{not-suc-le-zero, le-of-suc-le-suc}
 use native.Mathlib.Omega.{arith}
 use lib.ListN.{length, getD, take}
 use lib.Seq.{take-suc, take-all}
-use Rattle.octets.specs.Table.{each}
+use Rattle.octets.specs.Table.{table, each}
 
 and-true : (a : Bool) → (a && true) ≡ a
 and-true true = refl
@@ -59,3 +59,9 @@ module _ {A : Type 0} (p : A → Bool) where
   unfolding each
   each-all [] d f = refl
   each-all (x ∷ xs) d f = ap₂ (λ (a b : Bool). a && b) (f 0 (omega arith)) (each-all xs d (λ k h. f (suc k) (omega arith)))
+
+  -- of a table
+  pub each-table : (n : ℕ) (f : ℕ → A) → ((k : ℕ) → p (f k) ≡ true) → each p (table n f) ≡ true
+  unfolding each
+  each-table zero f h = refl
+  each-table (suc n) f h = ap₂ (λ (a b : Bool). a && b) (h 0) (each-table n (λ k. f (suc k)) (λ k. h (suc k)))

@@ -1,0 +1,191 @@
+-- Writing what was read: column by column.
+use Prim.Native.Nat.{ℕ, zero, suc, _+_, _*_, _/_, _%_, _<_, _≤_}
+use mathlib.Core.Path.{_≡_, refl, sym, ap, ap₂, _∙_}
+use mathlib.Core.Bool.{Bool, true, _&&_}
+use mathlib.Core.List.{List, [], _∷_, _++_, map}
+use native.Mathlib.Nat.{mod-lt}
+use native.Mathlib.Omega.{arith}
+use borrow.Author.Tests.{eqb-true, lt-ltb, ne-eqb}
+use lib.Dec.{eqb, ltb}
+use lib.ListN.{length, take, drop, length-append}
+use lib.Seq.{take-at, drop-at}
+use Rattle.octets.specs.Bytes.{natAt, octetsOf, part, Octets}
+use Rattle.octets.specs.Table.{table, octetsAt, natsAt, intsAt, octetsOfAll, each}
+use Rattle.octets.proofs.Codec.{octets-part}
+use Rattle.octets.proofs.Each.{each-table}
+use Rattle.octets.proofs.Fill.{map-table, table-same, octets-count}
+use Rattle.octets.proofs.Ladder.{passed}
+use Rattle.octets.proofs.Read.{nat-lt}
+use Rattle.layout.specs.Column.{Sign, unsigned, complement, value, item, values, numberAt, numbersAt, numberOctets, numbersOctets, holding, holdingAll, cut, join}
+use Rattle.layout.proofs.Cover.{join-cut}
+use Rattle.layout.proofs.Values.{write-number, write-numbers}
+use Rattle.pedr_layout.specs.Layout as columns
+use Rattle.pedr_flags.specs.Quality.{goodCount, qualityOf}
+use Rattle.pedr_flags.specs.Class.{classOf, classNumber}
+use Rattle.pedr_flags.specs.Descriptor.{descriptorOf, allFailuresOf}
+use Rattle.pedr_flags.specs.Encoder.{encoderOf}
+use Rattle.pedr_flags_writer.specs.Encoder.{encoderByte}
+use Rattle.pedr_flags_writer.specs.Quality.{qualityBits}
+use Rattle.pedr_flags_writer.specs.Descriptor.{descriptorOctets}
+use Rattle.pedr_flags_writer.proofs.Codes.{quality-whole, count-low, class-whole, encoder-whole}
+use Rattle.pedr_flags_writer.proofs.DescriptorRead.{descriptor-whole}
+use Rattle.pedr_arrays.specs.Arrays.{shotClass, classesOf, encodersOf, shotArraysOf, channelArraysOf, arraysOf}
+use Rattle.pedr_arrays.specs.Uninterpreted.{uninterpretedOf}
+use Rattle.pedr_fields.specs.Fields.{timeOf, positionOf, pointingOf, rangesOf, receiverOf, linkOf, fieldsOf}
+use Rattle.pedr_check.specs.Refusal.{valuesRefusal, recordRefusal}
+use Rattle.pedr_write_check.specs.Refusal.{isProper, isProperShot, hasTwoBits, writeRefusal}
+use Rattle.pedr_write_check.proofs.Accept.{Writable, writes}
+use Rattle.pedr_writer.specs.Parts.{shotClassNumber, recordParts, recordOf}
+use Rattle.pedr_round_trip.specs.RoundTrip.{WritesBack}
+
+-- what an accepted record meets
+pub record Accepted (s : List ℕ) : Type 0 where
+  pub size : length s ≡ 776
+  pub counter : goodCount (value s columns.qualityNumber) ≡ value s columns.qualityCounter
+  pub values : valuesRefusal (value s columns.timeMicros) (value s columns.latitude) (value s columns.frameIndex) ≡ 0
+
+pub accepted : (s : List ℕ) → recordRefusal s ≡ 0 → Accepted s
+unfolding recordRefusal
+accepted s e =
+    let c1 = passed _ 10 _ e in
+    let c2 = passed _ 11 _ (c1 .1) in
+    record { size = eqb-true _ _ (c1 .0); counter = eqb-true _ _ (c2 .0); values = c2 .1 }
+
+module _ (s : List ℕ) (o : Octets s) (z : recordRefusal s ≡ 0) where
+  a : Accepted s
+  a = accepted s z
+
+  -- a column of one number, and a column of several
+  one : (g : Sign) (i w : ℕ) → 1 ≤ w → i + w ≤ 776 → numberOctets g w (numberAt g s i w) ≡ part s i w
+  one g i w some h = write-number w some g s i o (rw (a .size) h)
+
+  several : (g : Sign) (i w n : ℕ) → 1 ≤ w → i + w * n ≤ 776 → numbersOctets g w (numbersAt g s i w n) ≡ part s i (w * n)
+  several g i w n some h = write-numbers w some g n s i o (rw (a .size) h)
+
+  quality-is : qualityBits (qualityOf s) ≡ natAt s 28 3
+  unfolding qualityOf
+  quality-is = quality-whole (natAt s 28 3) (natAt s 31 1) (nat-lt s 28 3 o)
+
+  counter-is : goodCount (qualityOf s .good) ≡ natAt s 31 1
+  unfolding qualityOf
+  counter-is = count-low (natAt s 28 3) ∙ a .counter
+
+  classes-are : map shotClassNumber (classesOf s) ≡ natsAt s 384 2 20
+  unfolding classesOf natsAt
+  classes-are =
+      map-table shotClassNumber 20 (λ k. shotClass (item s columns.class k))
+      ∙ table-same 20 (λ k. classNumber (classOf (item s columns.class k))) (λ k. natAt s (384 + 2 * k) 2) (λ k. class-whole (item s columns.class k))
+
+  encoders-are : map encoderByte (encodersOf s) ≡ natsAt s 620 1 20
+  unfolding encodersOf natsAt
+  encoders-are =
+      map-table encoderByte 20 (λ k. encoderOf (item s columns.encoder k))
+      ∙ table-same 20 (λ k. encoderByte (encoderOf (item s columns.encoder k))) (λ k. natAt s (620 + 1 * k) 1)
+      (λ k. encoder-whole (item s columns.encoder k) (o (620 + 1 * k)))
+
+  front-is : take 112 (uninterpretedOf s) ≡ part s 508 112
+  unfolding uninterpretedOf
+  front-is =
+      take-at (octetsAt s 508 112) (octetsAt s 640 136) 112 (octets-count s 508 112) ∙ octets-part s 508 112 (rw (a .size) (omega arith))
+
+  rest-is : drop 112 (uninterpretedOf s) ≡ part s 640 136
+  unfolding uninterpretedOf
+  rest-is =
+      drop-at (octetsAt s 508 112) (octetsAt s 640 136) 112 (octets-count s 508 112) ∙ octets-part s 640 136 (rw (a .size) (omega arith))
+
+  parts-are : recordParts (fieldsOf s) (arraysOf s) (uninterpretedOf s) ≡ cut s columns.recordColumns
+  unfolding fieldsOf timeOf positionOf pointingOf rangesOf receiverOf linkOf arraysOf shotArraysOf channelArraysOf intsAt
+  parts-are =
+      let p0 = one complement 0 4 (omega arith) (omega arith) in
+      let p1 = one complement 4 4 (omega arith) (omega arith) in
+      let p2 = one unsigned 8 4 (omega arith) (omega arith) in
+      let p3 = one complement 12 4 (omega arith) (omega arith) in
+      let p4 = one complement 16 4 (omega arith) (omega arith) in
+      let p5 = one unsigned 20 4 (omega arith) (omega arith) in
+      let p6 = one unsigned 24 4 (omega arith) (omega arith) in
+      let p7 = ap (octetsOf 3) quality-is ∙ one unsigned 28 3 (omega arith) (omega arith) in
+      let p8 = ap (octetsOf 1) counter-is ∙ one unsigned 31 1 (omega arith) (omega arith) in
+      let p9 = descriptor-whole s o (rw (a .size) (omega arith)) in
+      let p10 = several unsigned 48 4 20 (omega arith) (omega arith) in
+      let p11 = one unsigned 128 4 (omega arith) (omega arith) in
+      let p12 = one complement 132 4 (omega arith) (omega arith) in
+      let p13 = one complement 136 4 (omega arith) (omega arith) in
+      let p14 = one complement 140 4 (omega arith) (omega arith) in
+      let p15 = several unsigned 144 2 20 (omega arith) (omega arith) in
+      let p16 = several unsigned 184 2 20 (omega arith) (omega arith) in
+      let p17 = several unsigned 224 1 20 (omega arith) (omega arith) in
+      let p18 = several unsigned 244 2 20 (omega arith) (omega arith) in
+      let p19 = several unsigned 284 2 20 (omega arith) (omega arith) in
+      let p20 = several complement 324 4 3 (omega arith) (omega arith) in
+      let p21 = several complement 336 4 2 (omega arith) (omega arith) in
+      let p22 = several unsigned 344 2 20 (omega arith) (omega arith) in
+      let p23 = ap (octetsOfAll 2) classes-are ∙ several unsigned 384 2 20 (omega arith) (omega arith) in
+      let p24 = several unsigned 424 4 8 (omega arith) (omega arith) in
+      let p25 = one unsigned 456 4 (omega arith) (omega arith) in
+      let p26 = one unsigned 460 4 (omega arith) (omega arith) in
+      let p27 = several unsigned 464 2 8 (omega arith) (omega arith) in
+      let p28 = one unsigned 480 2 (omega arith) (omega arith) in
+      let p29 = one unsigned 482 2 (omega arith) (omega arith) in
+      let p30 = one unsigned 484 2 (omega arith) (omega arith) in
+      let p31 = one unsigned 486 2 (omega arith) (omega arith) in
+      let p32 = one unsigned 488 2 (omega arith) (omega arith) in
+      let p33 = one unsigned 490 2 (omega arith) (omega arith) in
+      let p34 = several unsigned 492 4 2 (omega arith) (omega arith) in
+      let p35 = one complement 500 4 (omega arith) (omega arith) in
+      let p36 = one complement 504 2 (omega arith) (omega arith) in
+      let p37 = one unsigned 506 2 (omega arith) (omega arith) in
+      let p38 = front-is in
+      let p39 = ap (octetsOfAll 1) encoders-are ∙ several unsigned 620 1 20 (omega arith) (omega arith) in
+      let p40 = rest-is in
+      λ i. p0 i ∷ p1 i ∷ p2 i ∷ p3 i ∷ p4 i ∷ p5 i ∷ p6 i ∷ p7 i ∷ p8 i ∷ p9 i ∷ p10 i ∷ p11 i
+      ∷ p12 i ∷ p13 i ∷ p14 i ∷ p15 i ∷ p16 i ∷ p17 i ∷ p18 i ∷ p19 i ∷ p20 i ∷ p21 i ∷ p22 i ∷ p23 i
+      ∷ p24 i ∷ p25 i ∷ p26 i ∷ p27 i ∷ p28 i ∷ p29 i ∷ p30 i ∷ p31 i ∷ p32 i ∷ p33 i ∷ p34 i ∷ p35 i
+      ∷ p36 i ∷ p37 i ∷ p38 i ∷ p39 i ∷ p40 i ∷ []
+
+  -- the record's bytes
+  bytes-are : recordOf (fieldsOf s) (arraysOf s) (uninterpretedOf s) ≡ s
+  unfolding recordOf
+  bytes-are = ap join parts-are ∙ join-cut s columns.recordColumns 0 776 refl (sym (a .size))
+
+  proper-classes : each isProperShot (classesOf s) ≡ true
+  unfolding classesOf
+  proper-classes = each-table isProperShot 20 (λ k. shotClass (item s columns.class k)) (λ k. proper (item s columns.class k))
+    where
+      proper : (n : ℕ) → isProper (classOf n) ≡ true
+      proper zero = refl
+      proper (suc zero) = refl
+      proper (suc (suc n)) =
+          simp (ne-eqb (suc (suc n)) 0 (λ e. omega arith), ne-eqb (suc (suc n)) 1 (λ e. omega arith)) (lt-ltb 1 (suc (suc n)) (omega arith))
+
+  two-bits : each hasTwoBits (encodersOf s) ≡ true
+  unfolding encodersOf
+  two-bits = each-table hasTwoBits 20 (λ k. encoderOf (item s columns.encoder k)) (λ k. fits (item s columns.encoder k))
+    where
+      below : (n : ℕ) → ltb (n % 4) 4 ≡ true
+      below n = lt-ltb (n % 4) 4 (mod-lt n (omega arith))
+
+      fits : (b : ℕ) → hasTwoBits (encoderOf b) ≡ true
+      fits b = ap₂ (λ (x y : Bool). x && y) (ap₂ (λ (x y : Bool). x && y) (below b) (below (b / 4))) (ap₂ (λ (x y : Bool). x && y) (below (b / 16)) (below (b / 64)))
+
+  uninterpreted-length : length (uninterpretedOf s) ≡ 248
+  unfolding uninterpretedOf
+  uninterpreted-length = length-append (octetsAt s 508 112) (octetsAt s 640 136) ∙ omega (arith, octets-count s 508 112, octets-count s 640 136)
+
+  may-write : (out : List ℕ) → length out ≡ 776 → Writable (fieldsOf s) (arraysOf s) (uninterpretedOf s) out
+  unfolding fieldsOf timeOf positionOf receiverOf qualityOf descriptorOf arraysOf shotArraysOf
+  may-write out room =
+      let q = nat-lt s 28 3 o in
+      let d = nat-lt s 32 3 o in record {
+        values = a .values;
+        classes = proper-classes;
+        good = omega arith;
+        quality-carried = omega arith;
+        descriptor-carried = omega arith;
+        encoders = two-bits;
+        bytes = uninterpreted-length;
+        room = room;
+      }
+
+pub write-back : WritesBack
+write-back s out o z room =
+    (sym (writes (fieldsOf s) (arraysOf s) (uninterpretedOf s) out (may-write s o z out room)), bytes-are s o z)
