@@ -39,7 +39,7 @@ use Rattle.pedr_fields.specs.Fields.{timeOf, positionOf, pointingOf, rangesOf, 
 use Rattle.pedr_fields.specs.declared.RecordFields.{RecordFields}
 use Rattle.pedr_check.specs.Refusal.{valuesRefusal, recordRefusal}
 use Rattle.pedr_write_check.specs.Refusal.{isProper, isProperShot, hasTwoBits, writeRefusal}
-use Rattle.pedr_write_check.proofs.Accept.{Writable, writable}
+use Rattle.pedr_write_check.proofs.Accept.{Proper, writable}
 use Rattle.pedr.specs.Read.{readDue, readArrays, readUninterpreted}
 use Rattle.pedr_writer.specs.Parts.{shotClassNumber, recordParts, recordOf}
 use Rattle.pedr_writer.proofs.Fits.{Sizes, record-fits}
@@ -91,8 +91,8 @@ encoder-of e h =
     encoder-parts e (ltb-true _ _ (l .0)) (ltb-true _ _ (l .1)) (ltb-true _ _ (r .0)) (ltb-true _ _ (r .1))
 
 module _ (f : RecordFields) (a : RecordArrays) (x out : List ℕ) (t : TypedFields f) (u : TypedArrays a) (ok : writeRefusal f a x out ≡ 0) where
-  m : Writable f a x out
-  m = writable f a x out ok
+  m : Proper f a x
+  m = writable f a x out ok .0
 
   s : List ℕ
   s = recordOf f a x

@@ -14,7 +14,8 @@ use Rattle.octets.specs.Table.{table, octetsAt, natsAt, intsAt, octetsOfAll, ea
 use Rattle.octets.proofs.Codec.{octets-part}
 use Rattle.octets.proofs.Each.{each-table}
 use Rattle.octets.proofs.Fill.{map-table, table-same, octets-count}
-use Rattle.octets.proofs.Ladder.{passed}
+use Rattle.octets.specs.Refusal.{after}
+use Rattle.octets.proofs.Ladder.{passed, pass-eq, then-fail, then-pass}
 use Rattle.octets.proofs.Read.{nat-lt}
 use Rattle.layout.specs.Column.{Sign, unsigned, complement, value, item, values, numberAt, numbersAt, numberOctets, numbersOctets, holding, holdingAll, cut, join}
 use Rattle.layout.proofs.Cover.{join-cut}
@@ -34,9 +35,9 @@ use Rattle.pedr_arrays.specs.Uninterpreted.{uninterpretedOf}
 use Rattle.pedr_fields.specs.Fields.{timeOf, positionOf, pointingOf, rangesOf, receiverOf, linkOf, fieldsOf}
 use Rattle.pedr_check.specs.Refusal.{valuesRefusal, recordRefusal}
 use Rattle.pedr_write_check.specs.Refusal.{isProper, isProperShot, hasTwoBits, writeRefusal}
-use Rattle.pedr_write_check.proofs.Accept.{Writable, writes}
+use Rattle.pedr_write_check.proofs.Accept.{Proper, room-decides}
 use Rattle.pedr_writer.specs.Parts.{shotClassNumber, recordParts, recordOf}
-use Rattle.pedr_round_trip.specs.RoundTrip.{WritesBack}
+use Rattle.pedr_round_trip.specs.RoundTrip.{WritesBack, copyRefusal}
 
 -- what an accepted record meets
 pub record Accepted (s : List ℕ) : Type 0 where
@@ -171,9 +172,9 @@ module _ (s : List ℕ) (o : Octets s) (z : recordRefusal s ≡ 0) where
   unfolding uninterpretedOf
   uninterpreted-length = length-append (octetsAt s 508 112) (octetsAt s 640 136) ∙ omega (arith, octets-count s 508 112, octets-count s 640 136)
 
-  may-write : (out : List ℕ) → length out ≡ 776 → Writable (fieldsOf s) (arraysOf s) (uninterpretedOf s) out
+  may-write : Proper (fieldsOf s) (arraysOf s) (uninterpretedOf s)
   unfolding fieldsOf timeOf positionOf receiverOf qualityOf descriptorOf arraysOf shotArraysOf
-  may-write out room =
+  may-write =
       let q = nat-lt s 28 3 o in
       let d = nat-lt s 32 3 o in record {
         values = a .values;
@@ -183,9 +184,24 @@ module _ (s : List ℕ) (o : Octets s) (z : recordRefusal s ≡ 0) where
         descriptor-carried = omega arith;
         encoders = two-bits;
         bytes = uninterpreted-length;
-        room = room;
       }
+
+  -- the writer refuses only the output
+  pub copy-number : (out : List ℕ) → writeRefusal (fieldsOf s) (arraysOf s) (uninterpretedOf s) out ≡ copyRefusal s out
+  unfolding copyRefusal
+  copy-number out = sym (room-decides (fieldsOf s) (arraysOf s) (uninterpretedOf s) out may-write) ∙ then-pass (recordRefusal s) _ _ z refl
+
+  -- and what it writes is the record
+  pub copy-bytes : (out : List ℕ)
+      → after (writeRefusal (fieldsOf s) (arraysOf s) (uninterpretedOf s) out) (recordOf (fieldsOf s) (arraysOf s) (uninterpretedOf s)) out
+      ≡ after (copyRefusal s out) s out
+  copy-bytes out = λ i. after (copy-number out i) (bytes-are i) out
 
 pub write-back : WritesBack
 write-back s out o z room =
-    (sym (writes (fieldsOf s) (arraysOf s) (uninterpretedOf s) out (may-write s o z out room)), bytes-are s o z)
+    (sym (pass-eq _ _ 41 0 0 room refl ∙ room-decides (fieldsOf s) (arraysOf s) (uninterpretedOf s) out (may-write s o z)), bytes-are s o z)
+
+-- a record that the reader refuses
+pub copy-refused : (s out : List ℕ) (n : ℕ) → n ≡ recordRefusal s → (n ≡ 0 → ⊥) → n ≡ copyRefusal s out
+unfolding copyRefusal
+copy-refused s out n e ne = then-fail (recordRefusal s) _ n e ne

@@ -112,7 +112,8 @@ fn put_pulses(shots: ShotArrays, out: &mut [u8])
     put_u16x20(optical_width, OPTICAL_WIDTH_AT, out);
 }
 
-fn class_numbers(classes: [ShotClass; SHOTS]) -> [u16; SHOTS]
+// The numbers of 20 classes.
+pub fn class_numbers(classes: [ShotClass; SHOTS]) -> [u16; SHOTS]
     ensures { λ r. ⌜ r ≡ map parts.shotClassNumber classes ⌝ }
 {
     let mut numbers = [0u16; SHOTS];

@@ -1,8 +1,9 @@
 -- What is said, and the bytes then in the output, by the ladder's number.
-use mathlib.Core.Path.{refl, sym, _∙_}
+use mathlib.Core.Path.{_≡_, refl, sym, _∙_}
 use denote.Ref.{now}
+use lib.ListN.{length}
 use Rattle.octets.proofs.Ladder.{say-refused, say-answered, after-refused, after-done}
-use Rattle.pedr_write_check.proofs.Accept.{Writable, writable}
+use Rattle.pedr_write_check.proofs.Accept.{Proper, writable}
 use Rattle.pedr_writer.specs.Parts.{recordOf}
 use borrow.Author.Needs.{needs}
 use Rattle.pedr_writer.proofs.write_record.Statement.{statement}
@@ -16,7 +17,7 @@ returns c =
     (say-refused _ _ tt e (c .if1 .taken), after-refused _ _ r (now (a .out)) e (c .if1 .taken))
 
 -- past the test the writer may write
-may : (c : tie.Else1) → let a = c .before .before .before .before .before .args in Writable (a .fields) (a .arrays) (now (a .uninterpreted)) (now (a .out))
+may : (c : tie.Else1) → let a = c .before .before .before .before .before .args in Proper (a .fields) (a .arrays) (now (a .uninterpreted)) × (length (now (a .out)) ≡ 776)
 may c = writable _ _ _ _ (sym (c .before .write-refusal .ensures) ∙ c .if1 .left)
 
 returns-2 : tie.Need-returns-2
@@ -34,6 +35,6 @@ write-record-spec =
     (λ c κs. search needs)
     (λ c. search needs)
     returns
-    (λ c κs. let m = may (c .before) in (m .bytes, m .room))
+    (λ c κs. let m = may (c .before) in (m .0 .bytes, m .1))
     (λ c. search needs)
     returns-2)
