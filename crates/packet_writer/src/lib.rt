@@ -21,7 +21,6 @@ use packet_layout::TEMPERATURES_AT;
 ghost use mathlib.Core.Path.{_≡_};
 ghost use Prim.Native.Nat.{_-_, _≤_, _<_};
 ghost use lib.ListN.{length};
-ghost use Rattle.octets.specs.Bytes.{octetsOf};
 ghost use Rattle.layout.specs.Column.{join};
 ghost use Rattle.packet_layout.specs.Layout as columns;
 ghost use Rattle.packet_layout.specs.Header.{mostCount};
@@ -54,13 +53,6 @@ fn refusal(fields: PacketFields, carried: &[u8], sum_word: usize, out: &[u8]) ->
         return 18;
     }
     0
-}
-
-// The two bytes of a word.
-fn word_bytes(x: u16) -> [u8; 2]
-    ensures { λ r. ⌜ r ≡ octetsOf 2 x ⌝ }
-{
-    [(x / 256 % 256) as u8, (x % 256) as u8]
 }
 
 // Bytes 0 to 11.
@@ -144,7 +136,7 @@ fn write_unsummed(
     let head = head_bytes(f);
     let status = status_bytes(f);
     let histogram = histogram_bytes(bins);
-    let hstart = word_bytes(f.hstart);
+    let hstart = octets_writer::u16_bytes(f.hstart);
     octets::write_into(&head, 0, out);
     octets::write_into(&temperatures, TEMPERATURES_AT, out);
     octets::write_into(&readings, READINGS_AT, out);
@@ -173,7 +165,7 @@ pub fn write_packet(
     let readings = arrays.readings;
     let bins = arrays.bins;
     write_unsummed(fields, temperatures, readings, bins, carried, out);
-    let sum = word_bytes(checksum::packet_sum(out, sum_word));
+    let sum = octets_writer::u16_bytes(checksum::packet_sum(out, sum_word));
     octets::write_into(&sum, sum_word * 2, out);
     PacketWritten::Written
 }

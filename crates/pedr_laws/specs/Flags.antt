@@ -1,5 +1,5 @@
 -- The flags and codes of a record, taken apart, lose no bit: the carried bits can be given back.
-use Prim.Native.Nat.{ℕ, _+_, _*_, _^_, _<_}
+use Prim.Native.Nat.{ℕ, _+_, _<_}
 use mathlib.Core.Path.{_≡_}
 use mathlib.Core.List.{List}
 use lib.Dec.{eqb}
@@ -11,13 +11,10 @@ use Rattle.pedr_flags.specs.Quality.{goodCount, qualityOf}
 use Rattle.pedr_flags.specs.Descriptor.{failed, descriptorOf}
 use Rattle.pedr_flags.specs.Class.{classOf, classNumber}
 use Rattle.pedr_flags.specs.Encoder.{encoderOf}
-use Rattle.pedr_flags.specs.declared.Encoder.{Encoder}
+use Rattle.pedr_flags_writer.specs.Quality.{qualityBits}
+use Rattle.pedr_flags_writer.specs.Encoder.{encoderByte}
 use Rattle.pedr_fields.specs.Fields.{fieldsOf}
 use Rattle.pedr_check.specs.Refusal.{recordRefusal}
-
--- the byte of two encoders' bits
-abbrev pub encoderByte : Encoder → ℕ
-encoderByte e = e .start + e .«carried_low» * 4 + e .stop * 16 + e .«carried_high» * 64
 
 -- the descriptor's 16 bytes as one number
 abbrev pub descriptorNumber : List ℕ → ℕ
@@ -25,7 +22,7 @@ descriptorNumber s = natAt s (descriptor .start) (size descriptor)
 
 pub record FlagsKept : Type 0 where
   -- the quality number is its carried bits and the bits of its shots
-  pub quality : (s : List ℕ) → Octets s → qualityOf s .carried * 2 ^ 20 + qualityOf s .good ≡ value s qualityNumber
+  pub quality : (s : List ℕ) → Octets s → qualityBits (qualityOf s) ≡ value s qualityNumber
   -- an accepted record's counter is the count of its good shots, by its fields alone
   pub counter : (s : List ℕ) → recordRefusal s ≡ 0 → goodCount (fieldsOf s .quality .good) ≡ fieldsOf s .quality .counter
   -- document 001: the descriptor is read from right to left with the rightmost bit being bit 0

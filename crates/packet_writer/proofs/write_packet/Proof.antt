@@ -30,7 +30,7 @@ returns-2 c =
     let z = sym (e .before .refusal .ensures) ∙ e .if1 .left in
     let u = c .before .before .before .before .before .before .before .before .before .before .write-unsummed in
     let s = c .before .before .before .before .before .before .packet-sum in
-    let v = c .before .before .before .before .before .word-bytes in
+    let v = c .before .before .before .before .before .u16-bytes in
     let o = c .before .before .write-into in
     let p = packetOf (a .fields) (a .arrays) (now (a .carried)) (a .sum-word) in (
       say-answered _ tt tt z refl,
