@@ -1,5 +1,5 @@
-//! The calls measured: `calls ARRIVALS ROW SIDE TIMES` makes a row's calls so many times and prints the nanoseconds for each call, or for
-//! each arrival. `calls ARRIVALS tally SIDE 1` prints what the arrivals come to.
+//! The calls measured: `calls INPUT ROW SIDE TIMES` makes a row's calls so many times and prints the nanoseconds for each call, or for
+//! each arrival. `calls INPUT tally SIDE 1` prints what the arrivals come to. INPUT is a directory that has the files `arrivals` and `pedr`.
 //!
 //! The sides: `verified`, the library; `rust`, the reference behind functions that are not inlined and whose arguments the compiler does
 //! not know, as the library's; `direct`, the reference called directly, so that the compiler may inline it and use the lengths and the sum
@@ -9,22 +9,27 @@
 //! between calls. The loop's own few instructions count on every side.
 
 #[allow(dead_code)]
+#[path = "../tests/convert.rs"]
+mod convert;
+#[allow(dead_code)]
 #[path = "../tests/mola.rs"]
 mod mola;
 #[path = "../tests/reference.rs"]
 mod reference;
 
-use reference::{Answer, Refusal, PACKET, PUBLISHED_SUM_WORD, STORE};
+use reference::record;
+use reference::{Answer, Refusal, PACKET, PUBLISHED_SUM_WORD, RECORD, STORE};
 use std::collections::BTreeMap;
 use std::hint::black_box;
+use std::path::Path;
 use std::time::Instant;
 
 const THRESHOLD: u32 = 4;
 const BUDGET: u32 = 32;
 const SUM_WORD: u32 = PUBLISHED_SUM_WORD as u32;
 
-/// The rows of one packet take so many of the first ones in turn, all of them accepted: they stay in the nearest cache.
-const PACKETS: usize = 16;
+/// The rows of one packet or record take so many of the first ones in turn, all of them accepted: they stay in the nearest cache.
+const IN_TURN: usize = 16;
 
 /// Every position free.
 const EMPTY: (u32, u32) = (0, 0);
@@ -38,6 +43,10 @@ trait Side {
     type Check;
     type Answer;
     type Count;
+    type Record;
+    type Shot;
+    /// What is given to write a record.
+    type Write;
 
     /// A session with this next and these marks, and the first packet's count and time.
     fn session(window: (u32, u32), first: &[u8; PACKET]) -> Self::Session;
@@ -52,11 +61,18 @@ trait Side {
         store: &[u8],
         descriptions: &mut [u32; 64],
     ) -> Self::Count;
+    fn read_record(bytes: &[u8]) -> Self::Record;
+    fn read_shot(bytes: &[u8], shot: usize) -> Self::Shot;
+    fn write_record(write: &Self::Write, out: &mut [u8]) -> Self::Check;
 
     fn waits(answer: &Self::Answer) -> bool;
     /// Refusal and kind.
     fn numbers(answer: &Self::Answer) -> (u32, u32);
     fn counted(count: &Self::Count) -> u32;
+    /// An accepted record, to write it.
+    fn rewrite(record: Self::Record) -> Self::Write;
+    fn record_said(record: Self::Record) -> mola::Record;
+    fn shot_said(shot: Self::Shot) -> mola::ShotRead;
 }
 
 struct Verified;
@@ -66,6 +82,9 @@ impl Side for Verified {
     type Check = u8;
     type Answer = mola::Answer;
     type Count = mola::Count;
+    type Record = mola::Record;
+    type Shot = mola::ShotRead;
+    type Write = mola::Record;
 
     fn session((next, marks): (u32, u32), first: &[u8; PACKET]) -> mola::Session {
         let read = mola::read_packet(first, PUBLISHED_SUM_WORD).fields;
@@ -116,6 +135,21 @@ impl Side for Verified {
     }
 
     #[inline(always)]
+    fn read_record(bytes: &[u8]) -> mola::Record {
+        mola::read_record(bytes)
+    }
+
+    #[inline(always)]
+    fn read_shot(bytes: &[u8], shot: usize) -> mola::ShotRead {
+        mola::read_shot(bytes, shot)
+    }
+
+    #[inline(always)]
+    fn write_record(write: &mola::Record, out: &mut [u8]) -> u8 {
+        mola::write_record(write.fields, write.arrays, &write.uninterpreted, out)
+    }
+
+    #[inline(always)]
     fn waits(answer: &mola::Answer) -> bool {
         answer.kind == mola::NOTHING
     }
@@ -127,10 +161,23 @@ impl Side for Verified {
     fn counted(count: &mola::Count) -> u32 {
         count.count
     }
+
+    fn rewrite(record: mola::Record) -> mola::Record {
+        record
+    }
+
+    fn record_said(record: mola::Record) -> mola::Record {
+        record
+    }
+
+    fn shot_said(shot: mola::ShotRead) -> mola::ShotRead {
+        shot
+    }
 }
 
 /// The reference as a library offers it. A symbol that others may call keeps the compiler from using what it knows of the callers here.
 mod called {
+    use super::reference::record::{self, Arrays, Fields, Record, Shot};
     use super::reference::{self, Answer, Refusal, Session};
 
     #[no_mangle]
@@ -188,21 +235,50 @@ mod called {
     ) -> Result<u32, Refusal> {
         reference::drain(session, out, store, budget, descriptions)
     }
+
+    #[no_mangle]
+    #[inline(never)]
+    pub fn rust_read_record(bytes: &[u8]) -> Result<Record, Refusal> {
+        record::read(bytes)
+    }
+
+    #[no_mangle]
+    #[inline(never)]
+    pub fn rust_read_shot(bytes: &[u8], shot: usize) -> Result<Shot, Refusal> {
+        record::read_shot(bytes, shot)
+    }
+
+    #[no_mangle]
+    #[inline(never)]
+    pub fn rust_write_record(
+        fields: Fields,
+        arrays: Arrays,
+        uninterpreted: &[u8],
+        out: &mut [u8],
+    ) -> Result<(), Refusal> {
+        record::write(fields, arrays, uninterpreted, out)
+    }
 }
 
 struct Rust;
 struct Direct;
 
 macro_rules! reference_side {
-    ($side:ty, $sum:path, $check:path, $open:path, $offer:path, $serve:path, $drain:path) => {
+    ($side:ty, $sum:path, $check:path, $open:path, $offer:path, $serve:path, $drain:path,
+     $read_record:path, $read_shot:path, $write_record:path) => {
         impl Side for $side {
             type Session = reference::Session;
             type Check = Result<(), Refusal>;
             type Answer = Result<Answer, Refusal>;
             type Count = Result<u32, Refusal>;
+            type Record = Result<record::Record, Refusal>;
+            type Shot = Result<record::Shot, Refusal>;
+            type Write = record::Record;
 
             fn session((next, marks): (u32, u32), first: &[u8; PACKET]) -> Self::Session {
-                let read = reference::read_packet(first, PUBLISHED_SUM_WORD).expect("valid");
+                let read = reference::read_packet(first, PUBLISHED_SUM_WORD)
+                    .expect("valid")
+                    .fields;
                 reference::Session {
                     anchor: reference::Anchor {
                         count: u32::from(read.count),
@@ -250,6 +326,21 @@ macro_rules! reference_side {
             }
 
             #[inline(always)]
+            fn read_record(bytes: &[u8]) -> Self::Record {
+                $read_record(bytes)
+            }
+
+            #[inline(always)]
+            fn read_shot(bytes: &[u8], shot: usize) -> Self::Shot {
+                $read_shot(bytes, shot)
+            }
+
+            #[inline(always)]
+            fn write_record(write: &record::Record, out: &mut [u8]) -> Self::Check {
+                $write_record(write.fields, write.arrays, &write.uninterpreted, out)
+            }
+
+            #[inline(always)]
             fn waits(answer: &Self::Answer) -> bool {
                 matches!(answer, Ok(Answer::Waiting) | Err(_))
             }
@@ -266,6 +357,18 @@ macro_rules! reference_side {
             fn counted(count: &Self::Count) -> u32 {
                 count.unwrap_or(0)
             }
+
+            fn rewrite(record: Self::Record) -> record::Record {
+                record.expect("valid")
+            }
+
+            fn record_said(record: Self::Record) -> mola::Record {
+                convert::record_read(record)
+            }
+
+            fn shot_said(shot: Self::Shot) -> mola::ShotRead {
+                convert::shot_read(shot)
+            }
         }
     };
 }
@@ -277,7 +380,10 @@ reference_side!(
     called::rust_open,
     called::rust_offer,
     called::rust_serve,
-    called::rust_drain
+    called::rust_drain,
+    called::rust_read_record,
+    called::rust_read_shot,
+    called::rust_write_record
 );
 reference_side!(
     Direct,
@@ -286,7 +392,10 @@ reference_side!(
     reference::open,
     reference::offer,
     reference::serve,
-    reference::drain
+    reference::drain,
+    record::read,
+    record::read_shot,
+    record::write
 );
 
 struct Buffers {
@@ -298,8 +407,17 @@ struct Buffers {
 /// The packets of the arrivals, in order; the first opens the buffer.
 type Packets = [[u8; PACKET]];
 
+/// PEDR records, all of them accepted.
+type Records = [[u8; RECORD]];
+
+struct Input {
+    packets: Vec<[u8; PACKET]>,
+    records: Vec<[u8; RECORD]>,
+}
+
 /// Makes the row's calls, and answers how many calls or arrivals they were.
-fn run<S: Side>(row: &str, packets: &Packets, buffers: &mut Buffers, times: usize) -> usize {
+fn run<S: Side>(row: &str, input: &Input, buffers: &mut Buffers, times: usize) -> usize {
+    let Input { packets, records } = input;
     match row {
         "sum" => sums::<S>(packets, times),
         "check" => checks::<S>(packets, times),
@@ -310,7 +428,10 @@ fn run<S: Side>(row: &str, packets: &Packets, buffers: &mut Buffers, times: usiz
         "drain-waits" => drains::<S>(WAITING, packets, buffers, times),
         "arrivals-serve" => arrivals_served::<S>(packets, buffers, times),
         "arrivals-drain" => arrivals_drained::<S>(packets, buffers, times),
-        "tally" => tally::<S>(packets, buffers),
+        "record-read" => record_reads::<S>(records, times),
+        "record-shot" => shot_reads::<S>(records, times),
+        "record-write" => record_writes::<S>(records, buffers, times),
+        "tally" => tally::<S>(packets, records, buffers),
         _ => panic!("no such row: {row}"),
     }
 }
@@ -319,13 +440,13 @@ fn accepted(packets: &Packets) -> Vec<[u8; PACKET]> {
     let accepted = packets
         .iter()
         .filter(|packet| reference::check_packet(&packet[..], PUBLISHED_SUM_WORD).is_ok());
-    accepted.take(PACKETS).copied().collect()
+    accepted.take(IN_TURN).copied().collect()
 }
 
 fn sums<S: Side>(packets: &Packets, times: usize) -> usize {
     let packets = accepted(packets);
     for i in 0..times {
-        let packet = black_box(&packets[i % PACKETS]);
+        let packet = black_box(&packets[i % IN_TURN]);
         black_box(S::packet_sum(packet, PUBLISHED_SUM_WORD));
     }
     times
@@ -334,7 +455,7 @@ fn sums<S: Side>(packets: &Packets, times: usize) -> usize {
 fn checks<S: Side>(packets: &Packets, times: usize) -> usize {
     let packets = accepted(packets);
     for i in 0..times {
-        let packet = black_box(&packets[i % PACKETS]);
+        let packet = black_box(&packets[i % IN_TURN]);
         black_box(S::check_packet(packet, PUBLISHED_SUM_WORD));
     }
     times
@@ -346,7 +467,7 @@ fn offers<S: Side>(packets: &Packets, buffers: &mut Buffers, times: usize) -> us
     let start = S::session(EMPTY, &packets[0]);
     for i in 0..times {
         let mut session = *black_box(&start);
-        let packet = black_box(&packets[i % PACKETS]);
+        let packet = black_box(&packets[i % IN_TURN]);
         black_box(S::offer(&mut session, &mut buffers.store[..], packet));
         black_box((&session, &buffers.store));
     }
@@ -432,8 +553,41 @@ fn arrivals_drained<S: Side>(packets: &Packets, buffers: &mut Buffers, times: us
     times * (packets.len() - 1)
 }
 
-/// Prints what the arrivals come to, and sums of the bytes served and drained, which are to be the same on every side.
-fn tally<S: Side>(packets: &Packets, buffers: &mut Buffers) -> usize {
+/// The answer is not moved after the call.
+fn record_reads<S: Side>(records: &Records, times: usize) -> usize {
+    for i in 0..times {
+        let answer = S::read_record(black_box(&records[i % IN_TURN]));
+        black_box(&answer);
+    }
+    times
+}
+
+fn shot_reads<S: Side>(records: &Records, times: usize) -> usize {
+    for i in 0..times {
+        let record = black_box(&records[i % IN_TURN]);
+        let answer = S::read_shot(record, black_box(1 + i % 20));
+        black_box(&answer);
+    }
+    times
+}
+
+/// Fields and arrays go by value: the copy that is made of them for each call counts.
+fn record_writes<S: Side>(records: &Records, buffers: &mut Buffers, times: usize) -> usize {
+    let writes: Vec<S::Write> = records
+        .iter()
+        .map(|record| S::rewrite(S::read_record(record)))
+        .collect();
+    for i in 0..times {
+        let write = black_box(&writes[i % IN_TURN]);
+        black_box(S::write_record(write, &mut buffers.out[..RECORD]));
+        black_box(&buffers.out);
+    }
+    times
+}
+
+/// Prints what the arrivals come to, and sums of the bytes served and drained and of what is said of the records and written, which are to be the
+/// same on every side.
+fn tally<S: Side>(packets: &Packets, records: &Records, buffers: &mut Buffers) -> usize {
     let mut offers = BTreeMap::new();
     let (mut given, mut missing, mut served_bytes) = (0, 0, 0);
     let mut session = S::session(EMPTY, &packets[0]);
@@ -477,10 +631,30 @@ fn tally<S: Side>(packets: &Packets, buffers: &mut Buffers) -> usize {
     }
     println!(
         "{} after the opening, by refusal number {offers:?}; {given} packets served, {missing} positions missing; {drained} answers drained; \
-         bytes {served_bytes:x} {drained_bytes:x}",
-        packets.len() - 1
+         bytes {served_bytes:x} {drained_bytes:x} {:x}",
+        packets.len() - 1,
+        tally_records::<S>(records, buffers)
     );
     packets.len() - 1
+}
+
+fn tally_records<S: Side>(records: &Records, buffers: &mut Buffers) -> u64 {
+    let mut sum = 0;
+    for record in records {
+        let read = S::record_said(S::read_record(record));
+        sum = mixed(sum, format!("{read:?}").as_bytes());
+        for shot in 1..=20 {
+            let read = S::shot_said(S::read_shot(record, shot));
+            sum = mixed(sum, format!("{read:?}").as_bytes());
+        }
+        S::write_record(
+            &S::rewrite(S::read_record(record)),
+            &mut buffers.out[..RECORD],
+        );
+        assert_eq!(buffers.out[..RECORD], record[..], "a record written back");
+        sum = mixed(sum, &buffers.out[..RECORD]);
+    }
+    sum
 }
 
 fn mixed(sum: u64, bytes: &[u8]) -> u64 {
@@ -489,17 +663,26 @@ fn mixed(sum: u64, bytes: &[u8]) -> u64 {
     })
 }
 
+fn read_input(directory: &Path) -> Input {
+    let arrivals = std::fs::read(directory.join("arrivals")).expect("the arrivals");
+    let pedr = std::fs::read(directory.join("pedr")).expect("the records");
+    let packets = arrivals
+        .chunks_exact(4 + PACKET)
+        .map(|arrival| arrival[4..].try_into().expect("a packet"));
+    let (records, _) = pedr.as_chunks();
+    Input {
+        packets: packets.collect(),
+        records: records.to_vec(),
+    }
+}
+
 fn main() {
     let arguments: Vec<String> = std::env::args().collect();
-    let [_, file, row, side, times] = &arguments[..] else {
-        panic!("usage: calls ARRIVALS ROW SIDE TIMES");
+    let [_, directory, row, side, times] = &arguments[..] else {
+        panic!("usage: calls INPUT ROW SIDE TIMES");
     };
     let times = times.parse().expect("a number of times");
-    let arrivals = std::fs::read(file).expect("the arrivals");
-    let packets: Vec<[u8; PACKET]> = arrivals
-        .chunks_exact(4 + PACKET)
-        .map(|arrival| arrival[4..].try_into().expect("a packet"))
-        .collect();
+    let input = read_input(Path::new(directory));
     let mut buffers = Buffers {
         store: Box::new([0; STORE]),
         out: Box::new([0; STORE]),
@@ -512,7 +695,7 @@ fn main() {
         _ => panic!("no such side: {side}"),
     };
     let start = Instant::now();
-    let units = run(row, &packets, &mut buffers, times);
+    let units = run(row, &input, &mut buffers, times);
     let elapsed = start.elapsed();
     if row != "tally" {
         // In hundredths, since to write a fraction takes more or fewer instructions by its value.

@@ -1,4 +1,4 @@
-//! Makes the input of the measurements, the same each time: `input records COUNT` or `input arrivals COUNT`, to standard output.
+//! Makes the input of the measurements, the same each time: `input records COUNT`, `input arrivals COUNT` or `input pedr COUNT`, to standard output.
 
 #[allow(dead_code)]
 #[path = "../tests/random.rs"]
@@ -7,19 +7,22 @@ mod random;
 mod reference;
 
 use random::Random;
-use reference::{Arrays, Fields, AEDR_HEADER, CARRIED, COUNTS, PACKET, PUBLISHED_SUM_WORD};
+use reference::{
+    record, Arrays, Fields, AEDR_HEADER, CARRIED, COUNTS, PACKET, PUBLISHED_SUM_WORD, RECORD,
+};
 use std::io::{self, BufWriter, Write};
 
 fn main() -> io::Result<()> {
     let arguments: Vec<String> = std::env::args().collect();
     let [_, kind, count] = &arguments[..] else {
-        panic!("usage: input records|arrivals COUNT");
+        panic!("usage: input records|arrivals|pedr COUNT");
     };
     let count = count.parse().expect("a count");
     let mut output = BufWriter::with_capacity(1 << 20, io::stdout().lock());
     match kind.as_str() {
         "records" => records(&mut output, count)?,
         "arrivals" => arrivals(&mut output, count)?,
+        "pedr" => pedr(&mut output, count)?,
         _ => panic!("no such input: {kind}"),
     }
     output.flush()
@@ -97,6 +100,25 @@ fn arrivals(output: &mut impl Write, count: u32) -> io::Result<()> {
         }
         output.write_all(&(position as u32).to_le_bytes())?;
         output.write_all(&packet)?;
+    }
+    Ok(())
+}
+
+/// Valid PEDR records of random bytes.
+fn pedr(output: &mut impl Write, count: u32) -> io::Result<()> {
+    let random = Random::new(3);
+    let mut bytes = [0; RECORD];
+    for _ in 0..count {
+        random.fill(&mut bytes);
+        let micros = random.within(-999_999, 999_999) as i32;
+        let latitude = random.within(-90_000_000, 90_000_000) as i32;
+        let good = u32::from_be_bytes([0, bytes[28] & 0x0F, bytes[29], bytes[30]]);
+        bytes[4..8].copy_from_slice(&micros.to_be_bytes());
+        bytes[12..16].copy_from_slice(&latitude.to_be_bytes());
+        bytes[31] = good.count_ones() as u8;
+        bytes[490..492].copy_from_slice(&[0, random.within(1, 7) as u8]);
+        record::check(&bytes).expect("a valid record");
+        output.write_all(&bytes)?;
     }
     Ok(())
 }

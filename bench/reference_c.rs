@@ -1,34 +1,40 @@
 //! The reference behind the declarations of `include/mola.h`, to measure its stack by the same program.
 
 #[allow(dead_code)]
+#[path = "../tests/convert.rs"]
+mod convert;
+#[allow(dead_code)]
 #[path = "../tests/mola.rs"]
 mod mola;
 #[path = "../tests/reference.rs"]
 mod reference;
 
-use mola::{Answer, Count, Fields, Read};
-use reference::{Arrays, Refusal, Session};
+use convert::{answer, number};
+use mola::{Answer, Count};
+use reference::record::{self, Record, Shot};
+use reference::{Arrays, Fields, Packet, Refusal, Session};
+use std::mem::zeroed;
 use std::slice::{from_raw_parts, from_raw_parts_mut};
 
-// Safety of every call below: the caller keeps to the header.
-
-fn number(result: Result<(), Refusal>) -> u8 {
-    result.err().unwrap_or(0)
+/// A refusal number and zeros, or 0 and what was read.
+#[repr(C)]
+pub struct Read<T> {
+    refusal: u32,
+    read: T,
 }
 
-fn numbers(answer: Result<reference::Answer, Refusal>) -> Answer {
-    let (refusal, kind, position) = match answer {
-        Err(refusal) => (u32::from(refusal), mola::NOTHING, 0),
-        Ok(reference::Answer::Waiting) => (0, mola::NOTHING, 0),
-        Ok(reference::Answer::Packet(position)) => (0, mola::PACKET, position),
-        Ok(reference::Answer::Missing(position)) => (0, mola::MISSING, position),
-    };
-    Answer {
-        refusal,
-        kind,
-        position,
+/// Safety: every bit of `T` may be zero.
+unsafe fn read<T>(answer: Result<T, Refusal>) -> Read<T> {
+    match answer {
+        Ok(read) => Read { refusal: 0, read },
+        Err(refusal) => Read {
+            refusal: u32::from(refusal),
+            read: zeroed(),
+        },
     }
 }
+
+// Safety of every call below: the caller keeps to the header.
 
 #[no_mangle]
 pub unsafe extern "C" fn mola_packet_sum(bytes: *const u8, len: usize, sum_word: usize) -> u16 {
@@ -44,33 +50,25 @@ pub unsafe extern "C" fn mola_check_packet(packet: *const u8, len: usize, sum_wo
 }
 
 #[no_mangle]
-pub unsafe extern "C" fn mola_read_packet(packet: *const u8, len: usize, sum_word: usize) -> Read {
-    match reference::read_packet(from_raw_parts(packet, len), sum_word) {
-        Err(refusal) => Read {
-            refusal: u32::from(refusal),
-            fields: Fields::default(),
-        },
-        Ok(read) => Read {
-            refusal: 0,
-            fields: Fields {
-                error_status: read.error_status,
-                count: read.count,
-                coarse_time: read.coarse_time,
-                fine_time: read.fine_time,
-                status_register: read.status_register,
-                software_version: read.software_version,
-                ram_flag_word: read.ram_flag_word,
-                status_word_1: read.status_word_1,
-                status_word_2: read.status_word_2,
-                software_checksum: read.software_checksum,
-                commands_received: read.commands_received,
-                command_errors: read.command_errors,
-                transmitter_threshold: read.transmitter_threshold,
-                tracking_status: read.tracking_status,
-                hstart: read.hstart,
-            },
-        },
-    }
+pub unsafe extern "C" fn mola_read_packet(
+    packet: *const u8,
+    len: usize,
+    sum_word: usize,
+) -> Read<Packet> {
+    read(reference::read_packet(
+        from_raw_parts(packet, len),
+        sum_word,
+    ))
+}
+
+#[no_mangle]
+pub extern "C" fn mola_first_bin(hstart: u16) -> u16 {
+    reference::first_bin(hstart)
+}
+
+#[no_mangle]
+pub extern "C" fn mola_bin_starts(hstart: u16, starts: &mut [u32; 48]) {
+    *starts = reference::bin_starts(hstart);
 }
 
 #[no_mangle]
@@ -85,82 +83,55 @@ pub unsafe extern "C" fn mola_write_packet(
     out: *mut u8,
     out_len: usize,
 ) -> u8 {
-    let fields = reference::Fields {
-        error_status: fields.error_status,
-        count: fields.count,
-        coarse_time: fields.coarse_time,
-        fine_time: fields.fine_time,
-        status_register: fields.status_register,
-        software_version: fields.software_version,
-        ram_flag_word: fields.ram_flag_word,
-        status_word_1: fields.status_word_1,
-        status_word_2: fields.status_word_2,
-        software_checksum: fields.software_checksum,
-        commands_received: fields.commands_received,
-        command_errors: fields.command_errors,
-        transmitter_threshold: fields.transmitter_threshold,
-        tracking_status: fields.tracking_status,
-        hstart: fields.hstart,
-    };
     let arrays = Arrays {
         temperatures: *temperatures,
         readings: *readings,
         bins: *bins,
     };
-    let carried = from_raw_parts(carried, carried_len);
-    let out = from_raw_parts_mut(out, out_len);
     number(reference::write_packet(
-        &fields, &arrays, carried, sum_word, out,
+        &fields,
+        &arrays,
+        from_raw_parts(carried, carried_len),
+        sum_word,
+        from_raw_parts_mut(out, out_len),
     ))
 }
 
 #[no_mangle]
-pub unsafe extern "C" fn mola_check_record(record: *const u8, len: usize) -> u8 {
-    number(reference::check_record(from_raw_parts(record, len)))
+pub unsafe extern "C" fn mola_check_record(bytes: *const u8, len: usize) -> u8 {
+    number(record::check(from_raw_parts(bytes, len)))
 }
 
-// The reference's session has the same six numbers in a layout of its own: each call turns it round.
-
-fn inward(session: &mola::Session) -> Session {
-    Session {
-        anchor: reference::Anchor {
-            count: session.anchor.count,
-            time: session.anchor.time,
-        },
-        sum_word: session.sum_word,
-        threshold: session.threshold,
-        window: reference::Window {
-            next: session.window.start,
-            marks: session.window.marks,
-        },
-    }
+#[no_mangle]
+pub unsafe extern "C" fn mola_read_record(bytes: *const u8, len: usize) -> Read<Record> {
+    read(record::read(from_raw_parts(bytes, len)))
 }
 
-fn outward(session: &Session) -> mola::Session {
-    mola::Session {
-        anchor: mola::Anchor {
-            count: session.anchor.count,
-            time: session.anchor.time,
-        },
-        sum_word: session.sum_word,
-        threshold: session.threshold,
-        window: mola::Window {
-            start: session.window.next,
-            marks: session.window.marks,
-        },
-    }
+#[no_mangle]
+pub unsafe extern "C" fn mola_read_shot(bytes: *const u8, len: usize, shot: usize) -> Read<Shot> {
+    read(record::read_shot(from_raw_parts(bytes, len), shot))
 }
 
-fn over<T>(session: &mut mola::Session, call: impl FnOnce(&mut Session) -> T) -> T {
-    let mut own = inward(session);
-    let answer = call(&mut own);
-    *session = outward(&own);
-    answer
+#[no_mangle]
+pub unsafe extern "C" fn mola_write_record(
+    fields: record::Fields,
+    arrays: record::Arrays,
+    uninterpreted: *const u8,
+    uninterpreted_len: usize,
+    out: *mut u8,
+    out_len: usize,
+) -> u8 {
+    number(record::write(
+        fields,
+        arrays,
+        from_raw_parts(uninterpreted, uninterpreted_len),
+        from_raw_parts_mut(out, out_len),
+    ))
 }
 
 #[no_mangle]
 pub unsafe extern "C" fn mola_open(
-    session: &mut mola::Session,
+    session: &mut Session,
     store: *mut u8,
     store_len: usize,
     packet: *const u8,
@@ -170,14 +141,12 @@ pub unsafe extern "C" fn mola_open(
 ) -> Answer {
     let store = from_raw_parts_mut(store, store_len);
     let packet = from_raw_parts(packet, packet_len);
-    numbers(over(session, |session| {
-        reference::open(session, store, packet, threshold, sum_word)
-    }))
+    answer(reference::open(session, store, packet, threshold, sum_word))
 }
 
 #[no_mangle]
 pub unsafe extern "C" fn mola_offer(
-    session: &mut mola::Session,
+    session: &mut Session,
     store: *mut u8,
     store_len: usize,
     packet: *const u8,
@@ -185,14 +154,12 @@ pub unsafe extern "C" fn mola_offer(
 ) -> Answer {
     let store = from_raw_parts_mut(store, store_len);
     let packet = from_raw_parts(packet, packet_len);
-    numbers(over(session, |session| {
-        reference::offer(session, store, packet)
-    }))
+    answer(reference::offer(session, store, packet))
 }
 
 #[no_mangle]
 pub unsafe extern "C" fn mola_serve(
-    session: &mut mola::Session,
+    session: &mut Session,
     out: *mut u8,
     out_len: usize,
     store: *const u8,
@@ -200,14 +167,12 @@ pub unsafe extern "C" fn mola_serve(
 ) -> Answer {
     let out = from_raw_parts_mut(out, out_len);
     let store = from_raw_parts(store, store_len);
-    numbers(over(session, |session| {
-        reference::serve(session, out, store)
-    }))
+    answer(reference::serve(session, out, store))
 }
 
 #[no_mangle]
 pub unsafe extern "C" fn mola_drain(
-    session: &mut mola::Session,
+    session: &mut Session,
     out: *mut u8,
     out_len: usize,
     store: *const u8,
@@ -217,16 +182,10 @@ pub unsafe extern "C" fn mola_drain(
 ) -> Count {
     let out = from_raw_parts_mut(out, out_len);
     let store = from_raw_parts(store, store_len);
-    let drained = over(session, |session| {
-        reference::drain(session, out, store, budget, descriptions)
-    });
-    Count {
-        refusal: u32::from(drained.err().unwrap_or(0)),
-        count: drained.unwrap_or(0),
-    }
+    convert::count(reference::drain(session, out, store, budget, descriptions))
 }
 
 #[no_mangle]
-pub unsafe extern "C" fn mola_pass(session: &mut mola::Session) -> Answer {
-    numbers(over(session, reference::pass))
+pub unsafe extern "C" fn mola_pass(session: &mut Session) -> Answer {
+    answer(reference::pass(session))
 }

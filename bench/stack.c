@@ -32,8 +32,9 @@ static size_t depth(void (*call)(void))
 static const uint8_t temperatures[16], readings[14], bins[48];
 static uint8_t carried[MOLA_CARRIED_SIZE], packet[MOLA_PACKET_SIZE], record[MOLA_RECORD_SIZE];
 static uint8_t store[MOLA_STORE_SIZE], out[MOLA_STORE_SIZE];
-static uint32_t descriptions[64];
+static uint32_t descriptions[64], starts[48];
 static struct mola_fields fields = {.count = 16380, .coarse_time = 1000000};
+static struct mola_record given;
 static struct mola_session session;
 
 static volatile uint32_t answered;
@@ -42,7 +43,11 @@ static void empty(void) { answered = 0; }
 static void sum(void) { answered = mola_packet_sum(packet, sizeof packet, MOLA_SUM_WORD); }
 static void check(void) { answered = mola_check_packet(packet, sizeof packet, MOLA_SUM_WORD); }
 static void read_packet(void) { answered = mola_read_packet(packet, sizeof packet, MOLA_SUM_WORD).refusal; }
+static void first_bin(void) { answered = mola_first_bin(fields.hstart); }
+static void bin_starts(void) { mola_bin_starts(fields.hstart, starts); }
 static void check_record(void) { answered = mola_check_record(record, sizeof record); }
+static void read_record(void) { answered = mola_read_record(record, sizeof record).refusal; }
+static void read_shot(void) { answered = mola_read_shot(record, sizeof record, 20).refusal; }
 static void offer(void) { answered = mola_offer(&session, store, sizeof store, packet, sizeof packet).refusal; }
 static void serve(void) { answered = mola_serve(&session, out, sizeof out, store, sizeof store).refusal; }
 static void pass(void) { answered = mola_pass(&session).refusal; }
@@ -50,6 +55,11 @@ static void pass(void) { answered = mola_pass(&session).refusal; }
 static void write_packet(void)
 {
     answered = mola_write_packet(fields, temperatures, readings, bins, carried, sizeof carried, MOLA_SUM_WORD, packet, sizeof packet);
+}
+
+static void write_record(void)
+{
+    answered = mola_write_record(given.fields, given.arrays, given.uninterpreted, sizeof given.uninterpreted, record, sizeof record);
 }
 
 static void open_session(void)
@@ -98,11 +108,17 @@ static size_t deepest(void (*call)(void), uint32_t ahead)
 int main(void)
 {
     record[491] = 1;
+    given = mola_read_record(record, sizeof record);
     row("mola_write_packet", deeper(write_packet, (uint8_t *)&fields.error_status));
     row("mola_packet_sum", depth(sum));
     row("mola_check_packet", deeper(check, &packet[700]));
     row("mola_read_packet", deeper(read_packet, &packet[700]));
+    row("mola_first_bin", depth(first_bin));
+    row("mola_bin_starts", depth(bin_starts));
     row("mola_check_record", deeper(check_record, &record[31]));
+    row("mola_read_record", deeper(read_record, &record[31]));
+    row("mola_read_shot", deeper(read_shot, &record[31]));
+    row("mola_write_record", deeper(write_record, &given.arrays.shots.encoder[19].stop));
     row("mola_open", deeper(open_session, &packet[700]));
     session.window.marks = 0;
     row("mola_offer", deeper(offer, &packet[700]));

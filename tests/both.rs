@@ -1,8 +1,10 @@
 //! Calls of the library beside the same calls of the reference: every answer, number and byte is compared after each.
 
-use crate::generate::Write;
+use crate::convert::{self, Lent};
+use crate::generate::{RecordWrite, Write};
 use crate::random::Random;
-use crate::reference::{Answer, Fields, Refusal, STORE};
+use crate::reference::record::Record;
+use crate::reference::{Packet, Refusal, STORE};
 use crate::{mola, reference};
 use std::fmt::{Arguments, Debug};
 
@@ -10,22 +12,35 @@ use std::fmt::{Arguments, Debug};
 pub const CHECK_PACKET: usize = 0;
 pub const READ_PACKET: usize = 1;
 pub const PACKET_SUM: usize = 2;
-pub const WRITE_PACKET: usize = 3;
-pub const CHECK_RECORD: usize = 4;
-pub const OPEN: usize = 5;
-pub const OFFER: usize = 6;
-pub const SERVE: usize = 7;
-pub const DRAIN: usize = 8;
-pub const PASS: usize = 9;
+pub const FIRST_BIN: usize = 3;
+pub const BIN_STARTS: usize = 4;
+pub const WRITE_PACKET: usize = 5;
+pub const CHECK_RECORD: usize = 6;
+pub const READ_RECORD: usize = 7;
+pub const READ_SHOT: usize = 8;
+pub const WRITE_RECORD: usize = 9;
+pub const OPEN: usize = 10;
+pub const OFFER: usize = 11;
+pub const SERVE: usize = 12;
+pub const DRAIN: usize = 13;
+pub const PASS: usize = 14;
 
-/// Each function and the refusals it can give. An offer cannot give 2: a session with such a sum word is broken, 30. Nothing here takes a
-/// shot number, so 16 does not occur.
-pub const FUNCTIONS: [(&str, &[u8]); 10] = [
+/// Every refusal number is below.
+pub const NUMBERS: usize = 50;
+
+/// Each function and the refusals it can give. An offer cannot give 2: a session with such a sum word is broken, 30. The writer of records
+/// takes a class by its number, so 40 does not occur.
+pub const FUNCTIONS: [(&str, &[u8]); 15] = [
     ("check_packet", &[1, 2, 3, 4, 5, 6, 7, 8, 9, 10]),
     ("read_packet", &[1, 2, 3, 4, 5, 6, 7, 8, 9, 10]),
     ("packet_sum", &[]),
+    ("first_bin", &[]),
+    ("bin_starts", &[]),
     ("write_packet", &[2, 17, 18]),
     ("check_record", &[11, 12, 13, 14, 15]),
+    ("read_record", &[11, 12, 13, 14, 15]),
+    ("read_shot", &[11, 12, 13, 14, 15, 16]),
+    ("write_record", &[13, 14, 15, 41, 49]),
     ("open", &[1, 2, 3, 4, 5, 6, 7, 8, 9, 10, 20, 27]),
     (
         "offer",
@@ -40,7 +55,7 @@ pub struct Harness {
     pub seed: u64,
     pub section: &'static str,
     /// How often each function gave each refusal, 0 for none.
-    pub given: [[u64; 32]; FUNCTIONS.len()],
+    pub given: [[u64; NUMBERS]; FUNCTIONS.len()],
     /// Accepted serves of the histories by kind.
     pub served: [u64; 3],
     /// Accepted drains of the histories by count.
@@ -56,7 +71,7 @@ impl Harness {
         Harness {
             seed: 0,
             section: "",
-            given: [[0; 32]; FUNCTIONS.len()],
+            given: [[0; NUMBERS]; FUNCTIONS.len()],
             served: [0; 3],
             drained: [0; 33],
             lists: 0,
@@ -144,20 +159,12 @@ impl Harness {
         library
     }
 
-    pub fn read_packet(&mut self, packet: &[u8], sum_word: usize) -> Option<Fields> {
+    pub fn read_packet(&mut self, packet: &[u8], sum_word: usize) -> Option<Packet> {
         let lent = packet.to_vec();
         let library = mola::read_packet(&lent, sum_word);
         let answer = reference::read_packet(packet, sum_word);
-        let fields = lent_fields(&answer.unwrap_or_default());
         let call = format_args!("read_packet(sum_word {sum_word}, {packet:02x?})");
-        self.same(
-            call,
-            library,
-            mola::Read {
-                refusal: number(answer.map(|_| ())),
-                fields,
-            },
-        );
+        self.same(call, library, convert::packet_read(answer));
         self.same_items(call, "packet", &lent, packet);
         self.count(READ_PACKET, library.refusal);
         answer.ok()
@@ -172,6 +179,20 @@ impl Harness {
         self.count(PACKET_SUM, 0);
     }
 
+    pub fn first_bin(&mut self, hstart: u16) {
+        let call = format_args!("first_bin({hstart})");
+        self.same(call, mola::first_bin(hstart), reference::first_bin(hstart));
+        self.count(FIRST_BIN, 0);
+    }
+
+    pub fn bin_starts(&mut self, hstart: u16, starts: &mut Twin<u32>) {
+        let (lent, ours) = starts.lend(BINS);
+        mola::bin_starts(hstart, lent.try_into().expect("48 numbers"));
+        ours.copy_from_slice(&reference::bin_starts(hstart));
+        starts.compare(self, format_args!("bin_starts({hstart})"), "starts", BINS);
+        self.count(BIN_STARTS, 0);
+    }
+
     pub fn write_packet(&mut self, write: &Write, out: &mut Twin<u8>) -> u32 {
         let Write {
             fields,
@@ -183,7 +204,7 @@ impl Harness {
         let (lent, ours) = out.lend(*room);
         let lent_carried = carried.clone();
         let library = u32::from(mola::write_packet(
-            lent_fields(fields),
+            fields.lent(),
             &arrays.temperatures,
             &arrays.readings,
             &arrays.bins,
@@ -207,12 +228,62 @@ impl Harness {
         let lent = record.to_vec();
         let library = u32::from(mola::check_record(&lent));
         let call = format_args!("check_record({record:02x?})");
-        self.same(call, library, number(reference::check_record(record)));
+        self.same(call, library, number(reference::record::check(record)));
         self.same_items(call, "record", &lent, record);
         self.count(CHECK_RECORD, library);
         library
     }
+
+    pub fn read_record(&mut self, record: &[u8]) -> Option<Record> {
+        let lent = record.to_vec();
+        let library = mola::read_record(&lent);
+        let answer = reference::record::read(record);
+        let call = format_args!("read_record({record:02x?})");
+        self.same(call, library, convert::record_read(answer));
+        self.same_items(call, "record", &lent, record);
+        self.count(READ_RECORD, library.refusal);
+        answer.ok()
+    }
+
+    pub fn read_shot(&mut self, record: &[u8], shot: usize) {
+        let lent = record.to_vec();
+        let library = mola::read_shot(&lent, shot);
+        let answer = reference::record::read_shot(record, shot);
+        let call = format_args!("read_shot(shot {shot}, {record:02x?})");
+        self.same(call, library, convert::shot_read(answer));
+        self.same_items(call, "record", &lent, record);
+        self.count(READ_SHOT, library.refusal);
+    }
+
+    pub fn write_record(&mut self, write: &RecordWrite, out: &mut Twin<u8>) -> u32 {
+        let RecordWrite {
+            fields,
+            arrays,
+            uninterpreted,
+            room,
+        } = write;
+        let (lent, ours) = out.lend(*room);
+        let lent_bytes = uninterpreted.clone();
+        let library = u32::from(mola::write_record(
+            fields.lent(),
+            arrays.lent(),
+            &lent_bytes,
+            lent,
+        ));
+        let answer = reference::record::write(*fields, *arrays, uninterpreted, ours);
+        let call = format_args!(
+            "write_record({fields:?}, {arrays:?}, uninterpreted {uninterpreted:02x?}, out of {room})"
+        );
+        self.same(call, library, number(answer));
+        out.compare(self, call, "out", *room);
+        self.same_items(call, "uninterpreted", &lent_bytes, uninterpreted);
+        self.count(WRITE_RECORD, library);
+        library
+    }
 }
+
+/// The bins of a packet.
+pub const BINS: usize = 48;
 
 /// Two equal buffers, one for each side, with bytes around the lent part that nobody may write.
 pub struct Twin<T> {
@@ -308,7 +379,7 @@ impl Pair {
             harness,
             call,
             lengths,
-            (answer, lent_answer(expected)),
+            (answer, convert::answer(expected)),
             (session, ours),
         );
         harness.count(OPEN, answer.refusal);
@@ -332,7 +403,7 @@ impl Pair {
             harness,
             call,
             lengths,
-            (answer, lent_answer(expected)),
+            (answer, convert::answer(expected)),
             (session, ours),
         );
         harness.count(OFFER, answer.refusal);
@@ -350,7 +421,7 @@ impl Pair {
             harness,
             call,
             lengths,
-            (answer, lent_answer(expected)),
+            (answer, convert::answer(expected)),
             (session, ours),
         );
         harness.count(SERVE, answer.refusal);
@@ -374,7 +445,7 @@ impl Pair {
             harness,
             call,
             lengths,
-            (count, lent_count(expected)),
+            (count, convert::count(expected)),
             (session, ours),
         );
         harness.count(DRAIN, count.refusal);
@@ -393,7 +464,7 @@ impl Pair {
             harness,
             call,
             lengths,
-            (answer, lent_answer(expected)),
+            (answer, convert::answer(expected)),
             (session, ours),
         );
         harness.count(PASS, answer.refusal);
@@ -401,7 +472,7 @@ impl Pair {
     }
 
     fn sessions(&self) -> (mola::Session, reference::Session) {
-        (self.session, own_session(&self.session))
+        (self.session, convert::own_session(self.session))
     }
 
     /// Compares what a call answered and left, the library's first, and keeps the session.
@@ -418,7 +489,7 @@ impl Pair {
         let call =
             format_args!("{call}\nstore of {store}, out of {room}, session before {before:?}");
         harness.same(call, answers.0, answers.1);
-        harness.same(call, own_session(&sessions.0), sessions.1);
+        harness.same(call, sessions.0, sessions.1.lent());
         self.store.compare(harness, call, "store", store);
         self.out.compare(harness, call, "out", room);
         self.descriptions
@@ -428,67 +499,5 @@ impl Pair {
 }
 
 fn number(answer: Result<(), Refusal>) -> u32 {
-    answer.err().map_or(0, u32::from)
-}
-
-fn lent_answer(answer: Result<Answer, Refusal>) -> mola::Answer {
-    let (refusal, kind, position) = match answer {
-        Err(refusal) => (u32::from(refusal), mola::NOTHING, 0),
-        Ok(Answer::Waiting) => (0, mola::NOTHING, 0),
-        Ok(Answer::Packet(position)) => (0, mola::PACKET, position),
-        Ok(Answer::Missing(position)) => (0, mola::MISSING, position),
-    };
-    mola::Answer {
-        refusal,
-        kind,
-        position,
-    }
-}
-
-fn lent_count(count: Result<u32, Refusal>) -> mola::Count {
-    mola::Count {
-        refusal: number(count.map(|_| ())),
-        count: count.unwrap_or(0),
-    }
-}
-
-fn own_session(session: &mola::Session) -> reference::Session {
-    let mola::Session {
-        anchor,
-        sum_word,
-        threshold,
-        window,
-    } = *session;
-    reference::Session {
-        anchor: reference::Anchor {
-            count: anchor.count,
-            time: anchor.time,
-        },
-        sum_word,
-        threshold,
-        window: reference::Window {
-            next: window.start,
-            marks: window.marks,
-        },
-    }
-}
-
-fn lent_fields(fields: &Fields) -> mola::Fields {
-    mola::Fields {
-        error_status: fields.error_status,
-        count: fields.count,
-        coarse_time: fields.coarse_time,
-        fine_time: fields.fine_time,
-        status_register: fields.status_register,
-        software_version: fields.software_version,
-        ram_flag_word: fields.ram_flag_word,
-        status_word_1: fields.status_word_1,
-        status_word_2: fields.status_word_2,
-        software_checksum: fields.software_checksum,
-        commands_received: fields.commands_received,
-        command_errors: fields.command_errors,
-        transmitter_threshold: fields.transmitter_threshold,
-        tracking_status: fields.tracking_status,
-        hstart: fields.hstart,
-    }
+    u32::from(convert::number(answer))
 }

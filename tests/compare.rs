@@ -6,18 +6,20 @@
 //! gives its path. Ends with 1 at the first difference, and where some answer that can be given never was in a long run.
 
 mod both;
+mod convert;
 mod generate;
 mod histories;
 mod lists;
 mod mola;
 mod program;
 mod random;
+mod records;
 mod reference;
 
-use both::{Harness, Twin, FUNCTIONS};
+use both::{Harness, Twin, BINS, FUNCTIONS};
 use generate::{Write, LONGEST_ROOM};
 use random::Random;
-use reference::{PACKET, RECORD};
+use reference::{Packet, PACKET};
 use std::process::ExitCode;
 
 const ROUNDS: u64 = 500;
@@ -26,15 +28,16 @@ const FIRST_SEED: u64 = 1;
 /// So many rounds must give each answer that can be given; one round need not.
 const COMPLETE: u64 = 100;
 
-/// Bytes on either side of a written packet that nobody may write.
+/// Bytes or numbers on either side of what is written that nobody may write.
 const GUARD: usize = 40;
 
 type Section = (&'static str, fn(&mut Harness, &Random));
 
-const SECTIONS: [Section; 5] = [
+const SECTIONS: [Section; 6] = [
     ("packets", packets),
     ("writes", writes),
-    ("records", records),
+    ("records", records::reads),
+    ("record_writes", records::writes),
     ("histories", |harness, random| {
         (0..16).for_each(|_| histories::history(harness, random))
     }),
@@ -62,6 +65,10 @@ fn main() -> ExitCode {
                 section(&mut harness, &Random::new(seed));
             }
         }
+    }
+    if only.is_none_or(|only| only == "bins") {
+        (harness.seed, harness.section) = (first, "bins");
+        bins(&mut harness, &Random::new(first));
     }
     if only.is_none_or(|only| only == "program") {
         (harness.seed, harness.section) = (first, "program");
@@ -96,6 +103,15 @@ fn packets(harness: &mut Harness, random: &Random) {
     }
 }
 
+/// Every HSTART.
+fn bins(harness: &mut Harness, random: &Random) {
+    for hstart in 0..=u16::MAX {
+        harness.first_bin(hstart);
+        let numbers = (0..BINS + 2 * GUARD).map(|_| random.u32()).collect();
+        harness.bin_starts(hstart, &mut Twin::new(numbers, GUARD, BINS));
+    }
+}
+
 /// What was written is read back, and what was read is written back.
 fn writes(harness: &mut Harness, random: &Random) {
     let contents = random.bytes(LONGEST_ROOM + 2 * GUARD);
@@ -105,7 +121,14 @@ fn writes(harness: &mut Harness, random: &Random) {
         if harness.write_packet(&write, &mut out) == 0 {
             let packet = out.reference(PACKET).to_vec();
             let read = harness.read_packet(&packet, write.sum_word);
-            harness.same(format_args!("reading back"), read, Some(write.fields));
+            harness.same(
+                format_args!("reading back"),
+                read,
+                Some(Packet {
+                    fields: write.fields,
+                    arrays: write.arrays,
+                }),
+            );
             write_back(harness, &packet, write.sum_word, &mut out);
         }
     }
@@ -117,14 +140,12 @@ fn writes(harness: &mut Harness, random: &Random) {
 
 /// "Writing an accepted science packet's fields gives its bytes back."
 fn write_back(harness: &mut Harness, packet: &[u8], sum_word: usize, out: &mut Twin<u8>) {
-    let read = harness.read_packet(packet, sum_word);
-    let (Some(fields), Ok(bytes)) = (read, packet.try_into()) else {
+    let Some(Packet { fields, arrays }) = harness.read_packet(packet, sum_word) else {
         return;
     };
     let mut carried = packet[106..].to_vec();
     // The writer does not read the sum's own bytes.
     carried[2 * sum_word - 106] ^= 0x55;
-    let arrays = reference::read_arrays(bytes);
     let write = Write {
         fields,
         arrays,
@@ -139,25 +160,6 @@ fn write_back(harness: &mut Harness, packet: &[u8], sum_word: usize, out: &mut T
         out.reference(PACKET),
         packet,
     );
-}
-
-fn records(harness: &mut Harness, random: &Random) {
-    for _ in 0..800 {
-        let mut record = generate::record(random);
-        for _ in 0..random.pick(&[0, 1, 1, 2, 3]) {
-            generate::damage_record(random, &mut record);
-        }
-        if random.once_in(20) {
-            record.resize(
-                random.pick(&[0, 1, RECORD - 1, RECORD + 1, PACKET, random.below(1_600)]),
-                1,
-            );
-        }
-        if random.once_in(40) {
-            random.fill(&mut record);
-        }
-        harness.check_record(&record);
-    }
 }
 
 fn print_table(harness: &Harness) {

@@ -2,6 +2,7 @@
 
 use crate::mola::{Anchor, Session, Window};
 use crate::random::Random;
+use crate::reference::record::{self, UNINTERPRETED};
 use crate::reference::{packet_sum, Arrays, Fields, CARRIED, END, PACKET, RECORD};
 
 /// A sum word in range, its edges and the published one preferred.
@@ -235,7 +236,7 @@ fn put_i32(record: &mut [u8], at: usize, value: i64) {
 }
 
 /// One defect of a record at a refusal's border or anywhere, or none.
-pub fn damage_record(random: &Random, record: &mut Vec<u8>) {
+fn damage_record(random: &Random, record: &mut [u8]) {
     match random.below(8) {
         0 => {
             record[31] = random.pick(&[
@@ -268,6 +269,124 @@ pub fn damage_record(random: &Random, record: &mut Vec<u8>) {
         5 => record[random.below(RECORD)] ^= 1 << random.below(8),
         _ => {}
     }
+}
+
+/// Any bytes for a record.
+pub fn any_record(random: &Random) -> Vec<u8> {
+    let mut record = record(random);
+    for _ in 0..random.pick(&[0, 1, 1, 2, 3]) {
+        damage_record(random, &mut record);
+    }
+    if random.once_in(20) {
+        let lengths = [0, 1, RECORD - 1, RECORD + 1, PACKET, random.below(1_600)];
+        record.resize(random.pick(&lengths), 1);
+    }
+    if random.once_in(40) {
+        random.fill(&mut record);
+    }
+    record
+}
+
+/// A shot number, some of which would be in range if bits of it were lost.
+pub fn shot(random: &Random) -> usize {
+    let shot = random.within(1, 20) as usize;
+    let wide = shot + random.pick(&[1 << 5, 1 << 8, 1 << 16, 1 << 32, 1 << 63]);
+    match random.below(4) {
+        0 => random.pick(&[0, 1, 20, 21, 22, usize::MAX, wide]),
+        _ => shot,
+    }
+}
+
+/// The arguments of a record's write, with the length of the output that is lent to it.
+pub struct RecordWrite {
+    pub fields: record::Fields,
+    pub arrays: record::Arrays,
+    pub uninterpreted: Vec<u8>,
+    pub room: usize,
+}
+
+/// No output of a record's write is longer.
+pub const LONGEST_RECORD_ROOM: usize = 2_000;
+
+/// A record's write of up to three defects, with the number that refuses it, or 0.
+pub fn record_write(random: &Random) -> (RecordWrite, u32) {
+    let read = record::read(&record(random)).expect("an accepted record");
+    let mut write = RecordWrite {
+        fields: read.fields,
+        arrays: read.arrays,
+        uninterpreted: read.uninterpreted.to_vec(),
+        room: RECORD,
+    };
+    // The writer does not read the counter.
+    write.fields.quality.counter = random.u8();
+    let mut first = DEFECTS.len();
+    for _ in 0..random.pick(&[0, 0, 1, 1, 2, 3]) {
+        let at = random.below(DEFECTS.len());
+        let (_, spoil) = DEFECTS[at];
+        spoil(random, &mut write);
+        first = first.min(at);
+    }
+    let refusal = DEFECTS.get(first).map_or(0, |(number, _)| *number);
+    (write, refusal)
+}
+
+type Defect = (u32, fn(&Random, &mut RecordWrite));
+
+/// What a record's write is refused for, with the number, in the order of the tests.
+const DEFECTS: [Defect; 9] = [
+    (13, |random, write| {
+        write.fields.time.micros = beyond(random, 999_999)
+    }),
+    (14, |random, write| {
+        write.fields.position.latitude = beyond(random, 90_000_000)
+    }),
+    (15, |random, write| {
+        write.fields.receiver.frame_index = random.pick(&[0, 8, 0x0100, 0x0701, random.u16() | 8])
+    }),
+    (49, |random, write| {
+        write.fields.quality.good = over(random, 20, 32)
+    }),
+    (49, |random, write| {
+        write.fields.quality.carried = over(random, 4, 8) as u8
+    }),
+    (49, |random, write| {
+        write.fields.descriptor.carried = over(random, 24, 32)
+    }),
+    (49, |random, write| {
+        let encoder = &mut write.arrays.shots.encoder[random.below(20)];
+        let part = match random.below(4) {
+            0 => &mut encoder.start,
+            1 => &mut encoder.carried_low,
+            2 => &mut encoder.stop,
+            _ => &mut encoder.carried_high,
+        };
+        *part = over(random, 2, 8) as u8;
+    }),
+    (49, |random, write| {
+        let length = other_length(random, UNINTERPRETED);
+        write.uninterpreted.resize(length, 7);
+    }),
+    (41, |random, write| {
+        write.room = other_length(random, RECORD)
+    }),
+];
+
+/// A number more than `limit` from 0.
+fn beyond(random: &Random, limit: i32) -> i32 {
+    let above = random.within(i64::from(limit) + 1, i64::from(i32::MAX)) as i32;
+    random.pick(&[limit + 1, -limit - 1, i32::MIN, i32::MAX, above, -above])
+}
+
+/// A number of up to `width` bits that has more than `bits`.
+fn over(random: &Random, bits: usize, width: usize) -> u32 {
+    let greatest = u32::MAX >> (32 - width);
+    let one = 1 << (bits + random.below(width - bits));
+    random.pick(&[1 << bits, greatest, one, one | random.u32() & greatest])
+}
+
+fn other_length(random: &Random, length: usize) -> usize {
+    let (shorter, longer) = (random.below(length), length + 1 + random.below(1_000));
+    random.pick(&[0, 1, length - 1, length + 1, 2 * length, shorter, longer])
 }
 
 /// A session that no refusal 30 meets, with `next` given; marks of positions from END on are left out.

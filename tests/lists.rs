@@ -74,7 +74,7 @@ fn offered(
         generate::damage(random, &mut packet, sum_word);
     }
     let read = read_packet(&packet, sum_word).ok();
-    let at = read.and_then(|fields| position(anchor, fields.count, fields.coarse_time));
+    let at = read.and_then(|read| position(anchor, read.fields.count, read.fields.coarse_time));
     let too_far = at.is_some_and(|p| p > i64::from(reach) + 31 && p < i64::from(END));
     (!too_far).then_some(packet)
 }

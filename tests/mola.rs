@@ -24,9 +24,188 @@ pub struct Fields {
 
 #[repr(C)]
 #[derive(Clone, Copy, Debug, PartialEq, Eq)]
+pub struct PacketArrays {
+    pub temperatures: [u8; 16],
+    pub readings: [u8; 14],
+    pub bins: [u8; 48],
+}
+
+#[repr(C)]
+#[derive(Clone, Copy, Debug, PartialEq, Eq)]
 pub struct Read {
     pub refusal: u32,
     pub fields: Fields,
+    pub arrays: PacketArrays,
+}
+
+#[repr(C)]
+#[derive(Clone, Copy, Debug, Default, PartialEq, Eq)]
+pub struct FrameTime {
+    pub whole: i32,
+    pub micros: i32,
+}
+
+#[repr(C)]
+#[derive(Clone, Copy, Debug, Default, PartialEq, Eq)]
+pub struct OrbitPosition {
+    pub orbit: u32,
+    pub latitude: i32,
+    pub longitude: i32,
+    pub radial_distance: u32,
+    pub ground_latitude: i32,
+    pub ground_longitude: i32,
+}
+
+#[repr(C)]
+#[derive(Clone, Copy, Debug, Default, PartialEq, Eq)]
+pub struct Quality {
+    pub good: u32,
+    pub carried: u8,
+    pub counter: u8,
+}
+
+/// A bool of C, as its byte: one that is neither 0 nor 1 is then a difference, where a bool of Rust would be undefined.
+pub type Bool = u8;
+
+#[repr(C)]
+#[derive(Clone, Copy, Debug, Default, PartialEq, Eq)]
+pub struct Descriptor {
+    pub packet_sum: Bool,
+    pub software_sum: Bool,
+    pub mode: Bool,
+    pub ots: Bool,
+    pub carried: u32,
+}
+
+#[repr(C)]
+#[derive(Clone, Copy, Debug, Default, PartialEq, Eq)]
+pub struct Pointing {
+    pub right_ascension: i32,
+    pub declination: i32,
+    pub twist: i32,
+}
+
+#[repr(C)]
+#[derive(Clone, Copy, Debug, Default, PartialEq, Eq)]
+pub struct Ranges {
+    pub mid_point_range: u32,
+    pub frame_radius: u32,
+    pub delay: u32,
+    pub width: u32,
+}
+
+#[repr(C)]
+#[derive(Clone, Copy, Debug, Default, PartialEq, Eq)]
+pub struct Receiver {
+    pub channel_mask: u16,
+    pub minimum_hits: u16,
+    pub hit_count: u16,
+    pub frame_counter: u16,
+    pub trigger: u16,
+    pub frame_index: u16,
+}
+
+#[repr(C)]
+#[derive(Clone, Copy, Debug, Default, PartialEq, Eq)]
+pub struct PacketLink {
+    pub seconds: i32,
+    pub millis: i16,
+    pub fine_time: u16,
+}
+
+#[repr(C)]
+#[derive(Clone, Copy, Debug, Default, PartialEq, Eq)]
+pub struct RecordFields {
+    pub time: FrameTime,
+    pub position: OrbitPosition,
+    pub quality: Quality,
+    pub descriptor: Descriptor,
+    pub pointing: Pointing,
+    pub ranges: Ranges,
+    pub receiver: Receiver,
+    pub link: PacketLink,
+}
+
+#[repr(C)]
+#[derive(Clone, Copy, Debug, Default, PartialEq, Eq)]
+pub struct Encoder {
+    pub start: u8,
+    pub carried_low: u8,
+    pub stop: u8,
+    pub carried_high: u8,
+}
+
+#[repr(C)]
+#[derive(Clone, Copy, Debug, Default, PartialEq, Eq)]
+pub struct Failures {
+    pub power: Bool,
+    pub energy: Bool,
+    pub range: Bool,
+    pub window: Bool,
+    pub comparison: Bool,
+}
+
+#[repr(C)]
+#[derive(Clone, Copy, Debug, Default, PartialEq, Eq)]
+pub struct ShotArrays {
+    pub radius: [u32; 20],
+    pub energy: [u16; 20],
+    pub reflectivity: [u16; 20],
+    pub trigger_channel: [u8; 20],
+    pub pulse_width: [u16; 20],
+    pub optical_width: [u16; 20],
+    pub laser_power: [u16; 20],
+    pub class_number: [u16; 20],
+    pub encoder: [Encoder; 20],
+    pub failures: [Failures; 20],
+}
+
+#[repr(C)]
+#[derive(Clone, Copy, Debug, Default, PartialEq, Eq)]
+pub struct ChannelArrays {
+    pub noise: [u32; 8],
+    pub thresholds: [u16; 8],
+}
+
+#[repr(C)]
+#[derive(Clone, Copy, Debug, Default, PartialEq, Eq)]
+pub struct RecordArrays {
+    pub shots: ShotArrays,
+    pub channels: ChannelArrays,
+    pub xyz: [i32; 3],
+    pub source_header: [u32; 2],
+}
+
+#[repr(C)]
+#[derive(Clone, Copy, Debug, PartialEq, Eq)]
+pub struct Record {
+    pub refusal: u32,
+    pub fields: RecordFields,
+    pub arrays: RecordArrays,
+    pub uninterpreted: [u8; 248],
+}
+
+#[repr(C)]
+#[derive(Clone, Copy, Debug, Default, PartialEq, Eq)]
+pub struct Shot {
+    pub radius: u32,
+    pub energy: u16,
+    pub reflectivity: u16,
+    pub trigger_channel: u8,
+    pub pulse_width: u16,
+    pub optical_width: u16,
+    pub laser_power: u16,
+    pub class_number: u16,
+    pub encoder: Encoder,
+    pub good: Bool,
+    pub failures: Failures,
+}
+
+#[repr(C)]
+#[derive(Clone, Copy, Debug, PartialEq, Eq)]
+pub struct ShotRead {
+    pub refusal: u32,
+    pub shot: Shot,
 }
 
 #[repr(C)]
@@ -72,7 +251,14 @@ pub struct Count {
 }
 
 const _: () = assert!(size_of::<Fields>() == 28);
-const _: () = assert!(size_of::<Read>() == 32);
+const _: () = assert!(size_of::<PacketArrays>() == 78);
+const _: () = assert!(size_of::<Read>() == 112);
+const _: () = assert!(size_of::<RecordFields>() == 96);
+const _: () = assert!(size_of::<ShotArrays>() == 520);
+const _: () = assert!(size_of::<RecordArrays>() == 588);
+const _: () = assert!(size_of::<Record>() == 936);
+const _: () = assert!(size_of::<Shot>() == 28);
+const _: () = assert!(size_of::<ShotRead>() == 32);
 const _: () = assert!(size_of::<Session>() == 24);
 const _: () = assert!(size_of::<Answer>() == 12);
 const _: () = assert!(size_of::<Count>() == 8);
@@ -81,6 +267,8 @@ extern "C" {
     fn mola_check_packet(packet: *const u8, packet_len: usize, sum_word: usize) -> u8;
     fn mola_read_packet(packet: *const u8, packet_len: usize, sum_word: usize) -> Read;
     fn mola_packet_sum(bytes: *const u8, bytes_len: usize, sum_word: usize) -> u16;
+    fn mola_first_bin(hstart: u16) -> u16;
+    fn mola_bin_starts(hstart: u16, starts: *mut [u32; 48]);
     fn mola_write_packet(
         fields: Fields,
         temperatures: *const [u8; 16],
@@ -93,6 +281,16 @@ extern "C" {
         out_len: usize,
     ) -> u8;
     fn mola_check_record(record: *const u8, record_len: usize) -> u8;
+    fn mola_read_record(record: *const u8, record_len: usize) -> Record;
+    fn mola_read_shot(record: *const u8, record_len: usize, shot: usize) -> ShotRead;
+    fn mola_write_record(
+        fields: RecordFields,
+        arrays: RecordArrays,
+        uninterpreted: *const u8,
+        uninterpreted_len: usize,
+        out: *mut u8,
+        out_len: usize,
+    ) -> u8;
     fn mola_open(
         session: *mut Session,
         store: *mut u8,
@@ -143,6 +341,14 @@ pub fn packet_sum(bytes: &[u8], sum_word: usize) -> u16 {
     unsafe { mola_packet_sum(bytes.as_ptr(), bytes.len(), sum_word) }
 }
 
+pub fn first_bin(hstart: u16) -> u16 {
+    unsafe { mola_first_bin(hstart) }
+}
+
+pub fn bin_starts(hstart: u16, starts: &mut [u32; 48]) {
+    unsafe { mola_bin_starts(hstart, starts) }
+}
+
 pub fn write_packet(
     fields: Fields,
     temperatures: &[u8; 16],
@@ -169,6 +375,32 @@ pub fn write_packet(
 
 pub fn check_record(record: &[u8]) -> u8 {
     unsafe { mola_check_record(record.as_ptr(), record.len()) }
+}
+
+pub fn read_record(record: &[u8]) -> Record {
+    unsafe { mola_read_record(record.as_ptr(), record.len()) }
+}
+
+pub fn read_shot(record: &[u8], shot: usize) -> ShotRead {
+    unsafe { mola_read_shot(record.as_ptr(), record.len(), shot) }
+}
+
+pub fn write_record(
+    fields: RecordFields,
+    arrays: RecordArrays,
+    uninterpreted: &[u8],
+    out: &mut [u8],
+) -> u8 {
+    unsafe {
+        mola_write_record(
+            fields,
+            arrays,
+            uninterpreted.as_ptr(),
+            uninterpreted.len(),
+            out.as_mut_ptr(),
+            out.len(),
+        )
+    }
 }
 
 pub fn open(

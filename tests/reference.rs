@@ -3,12 +3,17 @@
 //!
 //! Refusals are document 01's numbers. "A number is given exactly on its condition, the first in the order below", so each function
 //! tests in the order that document 01 lists for it, and nothing is written before the last test is passed.
+//!
+//! The structs that a caller in C gives or is given have C's layout, so that bench/reference_c.rs can hand them on as they are.
 
 // Each program that includes this module uses a part of it.
 #![allow(dead_code)]
 
 use std::fmt::Write;
 use std::ops::RangeInclusive;
+
+#[path = "reference_record.rs"]
+pub mod record;
 
 pub const PACKET: usize = 1_080;
 pub const CARRIED: usize = 974;
@@ -108,6 +113,7 @@ pub fn check_packet(packet: &[u8], sum_word: usize) -> Result<(), Refusal> {
 }
 
 /// The free fields of a packet that are single numbers.
+#[repr(C)]
 #[derive(Clone, Copy, Debug, Default, PartialEq, Eq)]
 pub struct Fields {
     pub error_status: u8,
@@ -128,6 +134,7 @@ pub struct Fields {
 }
 
 /// The free fields of a packet that are arrays; the bins in bin order.
+#[repr(C)]
 #[derive(Clone, Copy, Debug, PartialEq, Eq)]
 pub struct Arrays {
     pub temperatures: [u8; 16],
@@ -135,10 +142,24 @@ pub struct Arrays {
     pub bins: [u8; 48],
 }
 
-/// "Reader: 1 to 10", with the fields of an accepted packet.
-pub fn read_packet(packet: &[u8], sum_word: usize) -> Result<Fields, Refusal> {
+#[repr(C)]
+#[derive(Clone, Copy, Debug, PartialEq, Eq)]
+pub struct Packet {
+    pub fields: Fields,
+    pub arrays: Arrays,
+}
+
+/// "Reader: 1 to 10", with what an accepted packet holds.
+pub fn read_packet(packet: &[u8], sum_word: usize) -> Result<Packet, Refusal> {
     let packet = accept(packet, sum_word)?;
-    Ok(Fields {
+    Ok(Packet {
+        fields: fields_of(packet),
+        arrays: arrays_of(packet),
+    })
+}
+
+fn fields_of(packet: &[u8; PACKET]) -> Fields {
+    Fields {
         error_status: packet[0] & 7,
         count: count_of(packet),
         coarse_time: time_of(packet),
@@ -154,7 +175,7 @@ pub fn read_packet(packet: &[u8], sum_word: usize) -> Result<Fields, Refusal> {
         transmitter_threshold: packet[54],
         tracking_status: packet[55],
         hstart: u16_at(packet, 104),
-    })
+    }
 }
 
 fn count_of(packet: &[u8; PACKET]) -> u16 {
@@ -165,14 +186,24 @@ fn time_of(packet: &[u8; PACKET]) -> u32 {
     u32_at(packet, 6)
 }
 
-/// The arrays of a packet. "Bytes are swapped in pairs, so bin j (0 to 47) is packet byte 56 + j + 1 for even j and 56 + j - 1 for odd
-/// j": j exclusive-or 1.
-pub fn read_arrays(packet: &[u8; PACKET]) -> Arrays {
+/// "Bytes are swapped in pairs, so bin j (0 to 47) is packet byte 56 + j + 1 for even j and 56 + j - 1 for odd j": j exclusive-or 1.
+fn arrays_of(packet: &[u8; PACKET]) -> Arrays {
     Arrays {
         temperatures: std::array::from_fn(|i| packet[12 + i]),
         readings: std::array::from_fn(|i| packet[28 + i]),
         bins: std::array::from_fn(|j| packet[56 + (j ^ 1)]),
     }
+}
+
+/// "The first bin's number is HSTART plus 0xFFFE, modulo 65,536, then with its lowest bit cleared."
+pub fn first_bin(hstart: u16) -> u16 {
+    hstart.wrapping_add(0xFFFE) & !1
+}
+
+/// "Bin j starts at (first + j) × 1,536 metres, and that sum does not wrap."
+pub fn bin_starts(hstart: u16) -> [u32; 48] {
+    let first = u32::from(first_bin(hstart));
+    std::array::from_fn(|j| (first + j as u32) * 1_536)
 }
 
 /// "The writer takes the free fields and 974 carried bytes. It sets the fixed fields, works out the sum, and ignores what the carried
@@ -226,35 +257,10 @@ fn write_head(fields: &Fields, arrays: &Arrays, out: &mut [u8; PACKET]) {
     out[104..106].copy_from_slice(&fields.hstart.to_be_bytes());
 }
 
-// ---- PEDR records
-
-/// "Record: 11 to 15." Document 01 counts record bytes from 1.
-pub fn check_record(record: &[u8]) -> Result<(), Refusal> {
-    let record: &[u8; RECORD] = record.try_into().map_err(|_| 11)?;
-    // "The counter equals the number of ones in bits 0 to 19" of bytes 29 to 31; byte 32 is the counter.
-    if (quality(record) & 0xF_FFFF).count_ones() != u32::from(record[31]) {
-        return Err(12);
-    }
-    if !(-999_999..=999_999).contains(&i32_at(record, 4)) {
-        return Err(13);
-    }
-    if !(-90_000_000..=90_000_000).contains(&i32_at(record, 12)) {
-        return Err(14);
-    }
-    if !(1..=7).contains(&u16_at(record, 490)) {
-        return Err(15);
-    }
-    Ok(())
-}
-
-/// "Bytes 29-31 are one number."
-fn quality(record: &[u8; RECORD]) -> u32 {
-    u32_at(record, 28) >> 8
-}
-
 // ---- the reorder buffer (document 01's rack)
 
 /// The packet that opened the buffer, at position 0.
+#[repr(C)]
 #[derive(Clone, Copy, Debug, Default, PartialEq, Eq)]
 pub struct Anchor {
     pub count: u32,
@@ -262,12 +268,14 @@ pub struct Anchor {
 }
 
 /// "A session marks what it holds by p mod 32; a mark means the one such p from next to next + 31."
+#[repr(C)]
 #[derive(Clone, Copy, Debug, Default, PartialEq, Eq)]
 pub struct Window {
     pub next: u32,
     pub marks: u32,
 }
 
+#[repr(C)]
 #[derive(Clone, Copy, Debug, Default, PartialEq, Eq)]
 pub struct Session {
     pub anchor: Anchor,
@@ -512,10 +520,6 @@ fn u32_at<const N: usize>(bytes: &[u8; N], at: usize) -> u32 {
     u32::from_be_bytes([bytes[at], bytes[at + 1], bytes[at + 2], bytes[at + 3]])
 }
 
-fn i32_at<const N: usize>(bytes: &[u8; N], at: usize) -> i32 {
-    u32_at(bytes, at) as i32
-}
-
 /// The worked numbers of document 01, "Numbers to check by", and the short forms above against the sentences they stand for.
 #[cfg(test)]
 mod tests {
@@ -536,12 +540,6 @@ mod tests {
         };
         write_packet(&fields, &ARRAYS, &[0; CARRIED], sum_word, &mut packet).expect("valid fields");
         packet
-    }
-
-    fn record() -> [u8; RECORD] {
-        let mut record = [0; RECORD];
-        record[491] = 1;
-        record
     }
 
     /// A session opened with count 16,380 at time 1,000,000; position 0 is held.
@@ -582,8 +580,15 @@ mod tests {
         let mut packet = packet(0, 0, 53);
         packet[57] = 1;
         packet[102] = 2;
-        let bins = read_arrays(&packet).bins;
+        let bins = arrays_of(&packet).bins;
         assert_eq!((bins[0], bins[47]), (1, 2));
+    }
+
+    #[test]
+    fn bins_of_hstart() {
+        assert_eq!([7, 3, 2, 1].map(first_bin), [4, 0, 0, 65_534]);
+        let starts = bin_starts(1);
+        assert_eq!((starts[0], starts[47]), (65_534 * 1_536, 65_581 * 1_536));
     }
 
     #[test]
@@ -601,27 +606,7 @@ mod tests {
         };
         let mut packet = [0; PACKET];
         write_packet(&fields, &arrays, &[9; CARRIED], 70, &mut packet).expect("valid fields");
-        assert_eq!(read_packet(&packet, 70), Ok(fields));
-        assert_eq!(read_arrays(&packet), arrays);
-    }
-
-    #[test]
-    fn quality_counters() {
-        let mut record = record();
-        record[28..32].copy_from_slice(&[0x08, 0x00, 0x01, 2]);
-        assert_eq!(check_record(&record), Ok(()));
-        record[28..32].copy_from_slice(&[0x10, 0x00, 0x00, 0]);
-        assert_eq!(check_record(&record), Ok(()));
-    }
-
-    #[test]
-    fn microseconds() {
-        let mut record = record();
-        record[0..4].copy_from_slice(&(-187_606_958_i32).to_be_bytes());
-        record[4..8].copy_from_slice(&(-864_490_i32).to_be_bytes());
-        assert_eq!(check_record(&record), Ok(()));
-        record[4..8].copy_from_slice(&(-1_000_000_i32).to_be_bytes());
-        assert_eq!(check_record(&record), Err(13));
+        assert_eq!(read_packet(&packet, 70), Ok(Packet { fields, arrays }));
     }
 
     #[test]

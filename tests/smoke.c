@@ -1,4 +1,4 @@
-/* Each function of mola.h used from C: a packet written and read, a record, and a short history of one reorder buffer. */
+/* Each function of mola.h used from C: a packet written and read, a record read, corrected and written, and a short history of one reorder buffer. */
 #include "../include/mola.h"
 
 #include <stdio.h>
@@ -14,7 +14,23 @@ _Static_assert(offsetof(struct mola_session, window.marks) == 20, "place of wind
 _Static_assert(sizeof(struct mola_fields) == 28, "size of the fields");
 _Static_assert(offsetof(struct mola_fields, count) == 2 && offsetof(struct mola_fields, coarse_time) == 4, "places of count and time");
 _Static_assert(offsetof(struct mola_fields, ram_flag_word) == 12 && offsetof(struct mola_fields, hstart) == 24, "places of words");
-_Static_assert(sizeof(struct mola_read) == 32 && offsetof(struct mola_read, fields) == 4, "a read");
+_Static_assert(sizeof(struct mola_read) == 112 && offsetof(struct mola_read, fields) == 4 && offsetof(struct mola_read, arrays) == 32, "a read");
+_Static_assert(sizeof(struct mola_packet_arrays) == 78 && offsetof(struct mola_packet_arrays, bins) == 30, "a packet's arrays");
+_Static_assert(sizeof(struct mola_record_fields) == 96, "size of a record's fields");
+_Static_assert(offsetof(struct mola_record_fields, position) == 8 && offsetof(struct mola_record_fields, quality) == 32, "places of groups");
+_Static_assert(offsetof(struct mola_record_fields, descriptor) == 40 && offsetof(struct mola_record_fields, pointing) == 48, "places of groups");
+_Static_assert(offsetof(struct mola_record_fields, ranges) == 60 && offsetof(struct mola_record_fields, receiver) == 76, "places of groups");
+_Static_assert(offsetof(struct mola_record_fields, link) == 88, "place of link");
+_Static_assert(offsetof(struct mola_quality, counter) == 5 && offsetof(struct mola_descriptor, carried) == 4, "places of carried bits");
+_Static_assert(sizeof(struct mola_shot_arrays) == 520 && offsetof(struct mola_shot_arrays, trigger_channel) == 160, "shots");
+_Static_assert(offsetof(struct mola_shot_arrays, class_number) == 300 && offsetof(struct mola_shot_arrays, encoder) == 340, "shots");
+_Static_assert(offsetof(struct mola_shot_arrays, failures) == 420 && sizeof(struct mola_failures) == 5, "failures");
+_Static_assert(sizeof(struct mola_record_arrays) == 588 && offsetof(struct mola_record_arrays, channels) == 520, "a record's arrays");
+_Static_assert(offsetof(struct mola_record_arrays, xyz) == 568 && offsetof(struct mola_record_arrays, source_header) == 580, "a record's arrays");
+_Static_assert(sizeof(struct mola_record) == 936 && offsetof(struct mola_record, arrays) == 100, "a record");
+_Static_assert(offsetof(struct mola_record, uninterpreted) == 688, "place of the uninterpreted bytes");
+_Static_assert(sizeof(struct mola_shot) == 28 && offsetof(struct mola_shot, encoder) == 18 && offsetof(struct mola_shot, good) == 22, "a shot");
+_Static_assert(sizeof(struct mola_shot_read) == 32 && offsetof(struct mola_shot_read, shot) == 4, "a shot's read");
 _Static_assert(sizeof(struct mola_answer) == 12, "size of an answer");
 _Static_assert(sizeof(struct mola_count) == 8, "size of a count");
 
@@ -41,8 +57,7 @@ static struct mola_session session;
 /* A packet of count 16,380 + position, 14 seconds for each position after time 1,000,000. */
 static void write_at(uint32_t position)
 {
-    static const uint8_t temperatures[16], readings[14], carried[MOLA_CARRIED_SIZE];
-    static const uint8_t bins[48] = {1, 2};
+    static const uint8_t temperatures[16] = {[15] = 3}, readings[14] = {[13] = 4}, bins[48] = {1, 2}, carried[MOLA_CARRIED_SIZE] = {5};
     struct mola_fields fields = {
         .error_status = 5, .count = (uint16_t)((16380 + position) % 16384), .coarse_time = 1000000 + 14 * position, .hstart = 7,
     };
@@ -68,6 +83,9 @@ static void packets(void)
     EXPECT(read.refusal == 0 && read.fields.error_status == 5 && read.fields.count == 5);
     EXPECT(read.fields.coarse_time == 1000126 && read.fields.hstart == 7);
     EXPECT(packet[57] == 1 && packet[56] == 2);
+    EXPECT(read.arrays.bins[0] == 1 && read.arrays.bins[1] == 2 && read.arrays.bins[47] == 0);
+    EXPECT(read.arrays.temperatures[15] == 3 && packet[27] == 3 && read.arrays.readings[13] == 4 && packet[41] == 4);
+    EXPECT(packet[MOLA_CARRIED_AT] == 5);
     EXPECT(mola_check_packet(packet, sizeof packet, MOLA_SUM_WORD) == 0);
     uint16_t sum = mola_packet_sum(packet, sizeof packet, MOLA_SUM_WORD);
     EXPECT(packet[140] == sum >> 8 && packet[141] == (sum & 255));
@@ -75,9 +93,19 @@ static void packets(void)
     packet[141] ^= 1;
     EXPECT(mola_check_packet(packet, sizeof packet, MOLA_SUM_WORD) == 10);
     read = mola_read_packet(packet, sizeof packet, MOLA_SUM_WORD);
-    EXPECT(read.refusal == 10 && read.fields.count == 0);
+    EXPECT(read.refusal == 10 && read.fields.count == 0 && read.arrays.bins[0] == 0);
     EXPECT(mola_check_packet(packet, sizeof packet, 52) == 2);
     EXPECT(mola_check_packet(NULL, 0, MOLA_SUM_WORD) == 1);
+}
+
+static void bins(void)
+{
+    uint32_t starts[48];
+    EXPECT(mola_first_bin(7) == 4 && mola_first_bin(3) == 0 && mola_first_bin(2) == 0 && mola_first_bin(1) == 65534);
+    mola_bin_starts(7, starts);
+    EXPECT(starts[0] == 4 * 1536 && starts[47] == 51 * 1536);
+    mola_bin_starts(1, starts);
+    EXPECT(starts[0] == 65534 * 1536 && starts[47] == 65581 * 1536);
 }
 
 static void records(void)
@@ -88,7 +116,83 @@ static void records(void)
     EXPECT(mola_check_record(record, sizeof record) == 0);
     record[31] = 1;
     EXPECT(mola_check_record(record, sizeof record) == 12);
+    EXPECT(mola_read_record(record, sizeof record).refusal == 12 && mola_read_shot(record, sizeof record, 0).refusal == 12);
     EXPECT(mola_check_record(record, 775) == 11);
+}
+
+/* Each byte is its own number, modulo 256, but for these: microseconds and latitude are 0 and the frame index is 7; shots 1 and 20 are good, and only
+ * shot 20's power test failed; encoder 1 is 0x21. */
+static void number_bytes(uint8_t record[MOLA_RECORD_SIZE])
+{
+    static const uint8_t quality[4] = {0x98, 0x00, 0x01, 2}, descriptor[16] = {[13] = 0x80}, frame_index[2] = {0, 7};
+    for (int at = 0; at < MOLA_RECORD_SIZE; at++) {
+        record[at] = (uint8_t)(at + 1);
+    }
+    memset(record + 4, 0, 4);
+    memset(record + 12, 0, 4);
+    memcpy(record + 28, quality, sizeof quality);
+    memcpy(record + 32, descriptor, sizeof descriptor);
+    memcpy(record + 490, frame_index, sizeof frame_index);
+    record[620] = 0x21;
+}
+
+static void shots(void)
+{
+    uint8_t record[MOLA_RECORD_SIZE];
+    number_bytes(record);
+    struct mola_shot_read read = mola_read_shot(record, sizeof record, 1);
+    EXPECT(read.refusal == 0 && read.shot.good && read.shot.radius == 0x31323334 && read.shot.energy == 0x9192);
+    EXPECT(read.shot.encoder.start == 1 && read.shot.encoder.stop == 2 && read.shot.encoder.carried_low == 0 && read.shot.encoder.carried_high == 0);
+    EXPECT(!read.shot.failures.power && !mola_read_shot(record, sizeof record, 2).shot.good);
+    read = mola_read_shot(record, sizeof record, 20);
+    EXPECT(read.refusal == 0 && read.shot.good && read.shot.failures.power && !read.shot.failures.energy && !read.shot.failures.comparison);
+    EXPECT(read.shot.trigger_channel == 0xF4 && read.shot.class_number == 0xA7A8);
+    read = mola_read_shot(record, sizeof record, 21);
+    EXPECT(read.refusal == 16 && read.shot.radius == 0 && !read.shot.good);
+}
+
+static uint8_t write_back(const struct mola_record *read, uint8_t *written, size_t written_len)
+{
+    return mola_write_record(read->fields, read->arrays, read->uninterpreted, sizeof read->uninterpreted, written, written_len);
+}
+
+static void record_corrected(void)
+{
+    uint8_t record[MOLA_RECORD_SIZE], written[MOLA_RECORD_SIZE] = {0};
+    number_bytes(record);
+    struct mola_record read = mola_read_record(record, sizeof record);
+    EXPECT(read.refusal == 0 && read.fields.time.whole == 0x01020304 && read.fields.position.ground_latitude == 0x51525354);
+    EXPECT(read.fields.quality.good == 0x80001 && read.fields.quality.carried == 9 && read.fields.quality.counter == 2);
+    EXPECT(read.fields.receiver.frame_index == 7 && read.fields.link.millis == (int16_t)0xF9FA && read.fields.link.fine_time == 0xFBFC);
+    EXPECT(read.arrays.shots.failures[19].power && read.arrays.channels.thresholds[7] == 0xDFE0 && read.arrays.xyz[2] == 0x4D4E4F50);
+    EXPECT(memcmp(read.uninterpreted, record + 508, 112) == 0 && memcmp(read.uninterpreted + 112, record + 640, 136) == 0);
+    read.fields.quality.counter = 77;
+    EXPECT(write_back(&read, written, sizeof written) == 0 && memcmp(written, record, sizeof record) == 0);
+
+    read.fields.position.latitude = -90000000;
+    read.fields.quality.good |= 1u << (20 - 2);
+    read.arrays.shots.class_number[1] = 1;
+    EXPECT(write_back(&read, written, sizeof written) == 0 && written[28] == 0x9C && written[31] == 3);
+    EXPECT(mola_read_shot(written, sizeof written, 2).shot.good && mola_read_shot(written, sizeof written, 2).shot.class_number == 1);
+    EXPECT(mola_read_record(written, sizeof written).fields.position.latitude == -90000000);
+}
+
+static void record_writes_refused(void)
+{
+    uint8_t record[MOLA_RECORD_SIZE], written[MOLA_RECORD_SIZE] = {0};
+    number_bytes(record);
+    struct mola_record read = mola_read_record(record, sizeof record);
+    EXPECT(write_back(&read, written, 775) == 41);
+    EXPECT(mola_write_record(read.fields, read.arrays, NULL, 0, written, 775) == 49);
+    read.arrays.shots.encoder[19].stop = 4;
+    EXPECT(write_back(&read, written, sizeof written) == 49);
+    read.fields.receiver.frame_index = 8;
+    EXPECT(write_back(&read, written, sizeof written) == 15);
+    read.fields.position.latitude = -90000001;
+    EXPECT(write_back(&read, written, sizeof written) == 14);
+    read.fields.time.micros = 1000000;
+    EXPECT(write_back(&read, written, sizeof written) == 13);
+    EXPECT(memcmp(written, (uint8_t[MOLA_RECORD_SIZE]){0}, sizeof written) == 0);
 }
 
 /* Positions 0, 3, 1 and 5 come; with threshold 3 position 2 is missing when 5 is held. */
@@ -133,7 +237,11 @@ static void history(void)
 int main(void)
 {
     packets();
+    bins();
     records();
+    shots();
+    record_corrected();
+    record_writes_refused();
     history();
     if (failures != 0) {
         return 1;

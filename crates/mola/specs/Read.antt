@@ -1,6 +1,7 @@
 -- What is due of the reader of a packet, as one struct.
-use Rattle.octets.specs.Refusal.{Said, refused, answered}
+use Rattle.octets.specs.Refusal.{Said, refused, answered, refusalIn}
 use Rattle.packet.specs.declared.PacketFields.{PacketFields}
+use Rattle.packet.specs.declared.PacketArrays.{PacketArrays}
 use Rattle.mola.specs.declared.FieldsAnswer.{FieldsAnswer}
 
 abbrev pub noFields : PacketFields
@@ -23,7 +24,10 @@ noFields =
       hstart = 0;
     }
 
--- a refusal is its number, with fields of all zeros; an accepted packet is 0 and its fields
-abbrev pub asRead : Said PacketFields → FieldsAnswer
-asRead (refused n) = record { refusal = n; fields = noFields }
-asRead (answered f) = record { refusal = 0; fields = f }
+abbrev pub fieldsIn : Said PacketFields → PacketFields
+fieldsIn (refused n) = noFields
+fieldsIn (answered f) = f
+
+-- what is said of a packet, with its arrays: a refusal is its number, with fields of all zeros; an accepted packet is 0 and its fields
+abbrev pub asRead : Said PacketFields → PacketArrays → FieldsAnswer
+asRead said a = record { refusal = refusalIn said; fields = fieldsIn said; arrays = a }

@@ -6,6 +6,8 @@ use packet_layout::BINS;
 use packet_layout::READINGS;
 use packet_layout::TEMPERATURES;
 use packet_writer::PacketWritten;
+use pedr_c::RecordNumbers;
+use pedr_c::ShotRead;
 use reorder_c_answers::Answer;
 use reorder_c_answers::Count;
 use reorder_c_answers::DESCRIPTION_NUMBERS;
@@ -13,17 +15,22 @@ use reorder_session::Session;
 ghost use mathlib.Core.Path.{_≡_};
 ghost use Rattle.checksum.specs.Sum.{packetSum};
 ghost use Rattle.packet_check.specs.Refusal.{readRefusal};
-ghost use Rattle.packet.specs.Read.{readDue};
+ghost use Rattle.packet.specs.Read.{readDue, readArrays};
+ghost use Rattle.packet_bins.specs.Bins.{firstBin, binStarts};
 ghost use Rattle.packet_writer.specs.Write.{writeRefusal, writeBytes};
 ghost use Rattle.pedr_check.specs.Refusal.{recordRefusal};
+ghost use Rattle.pedr.specs.Read as pedr;
+ghost use Rattle.pedr_shot.specs.Shot.{shotDue};
+ghost use Rattle.pedr_c.specs.Numbers.{recordNumbers, shotRead};
 ghost use Rattle.reorder_c.specs.Calls.{OpensAs, OffersAs, ServesAs, DrainsAs, PassesAs};
 ghost use Rattle.mola.specs.Read.{noFields, asRead};
 
-// A packet's refusal number, or 0, and its fields, which are all zeros on a refusal.
+// A packet's refusal number and zeros; or 0 and its fields and arrays.
 #[repr(C)]
 pub struct FieldsAnswer {
     pub refusal: u32,
     pub fields: PacketFields,
+    pub arrays: PacketArrays,
 }
 
 // The refusal number of a packet whose sum stands at word sum_word, or 0.
@@ -57,18 +64,25 @@ fn no_fields() -> PacketFields
     }
 }
 
-// The refusal number of a packet whose sum stands at word sum_word, or 0, and its fields.
+// The refusal number of a packet whose sum stands at word sum_word, or 0, and its fields and arrays.
 #[no_mangle]
 pub extern "C" fn mola_read_packet(packet: &[u8], sum_word: usize) -> FieldsAnswer
-    ensures { λ r. ⌜ r ≡ asRead (readDue (now (packet .entry)) «sum_word») ⌝ }
+    ensures { λ r. ⌜ r ≡ asRead (readDue (now (packet .entry)) «sum_word») (readArrays (now (packet .entry)) «sum_word») ⌝ }
 {
-    let answer = packet::read_answer(packet, sum_word);
+    let read = packet::read_packet(packet, sum_word);
+    let answer = read.answer;
+    let arrays = read.arrays;
     match answer {
         PacketAnswer::Refused(n) => FieldsAnswer {
             refusal: n as u32,
             fields: no_fields(),
+            arrays,
         },
-        PacketAnswer::Accepted(fields) => FieldsAnswer { refusal: 0, fields },
+        PacketAnswer::Accepted(fields) => FieldsAnswer {
+            refusal: 0,
+            fields,
+            arrays,
+        },
     }
 }
 
@@ -78,6 +92,22 @@ pub extern "C" fn mola_packet_sum(bytes: &[u8], sum_word: usize) -> u16
     ensures { λ r. ⌜ r ≡ packetSum (now (bytes .entry)) «sum_word» ⌝ }
 {
     checksum::packet_sum(bytes, sum_word)
+}
+
+// The number of the first bin of a packet with this HSTART.
+#[no_mangle]
+pub extern "C" fn mola_first_bin(hstart: u16) -> u16
+    ensures { λ r. ⌜ r ≡ firstBin hstart ⌝ }
+{
+    packet_bins::first_bin(hstart)
+}
+
+// Where each bin of a packet with this HSTART starts, in metres.
+#[no_mangle]
+pub extern "C" fn mola_bin_starts(hstart: u16, starts: &mut [u32; BINS])
+    ensures { λ _. ⌜ now (starts .exit) ≡ binStarts hstart ⌝ }
+{
+    *starts = packet_bins::bin_starts(hstart);
 }
 
 // Writes a packet into out, with its sum at word sum_word: the refusal number, or 0. A refusal leaves out as it was.
@@ -114,6 +144,23 @@ pub extern "C" fn mola_check_record(bytes: &[u8]) -> u8
     ensures { λ r. ⌜ r ≡ recordRefusal (now (bytes .entry)) ⌝ }
 {
     pedr_check::record_refusal(bytes)
+}
+
+// Reads a PEDR record: its refusal number, or 0, and what it holds.
+#[no_mangle]
+pub extern "C" fn mola_read_record(bytes: &[u8]) -> RecordNumbers
+    ensures { λ r. ⌜ r ≡ recordNumbers (pedr.readDue (now (bytes .entry))) (pedr.readArrays (now (bytes .entry)))
+        (pedr.readUninterpreted (now (bytes .entry))) ⌝ }
+{
+    pedr_c::read_record(bytes)
+}
+
+// Reads one shot of a PEDR record: the refusal number, or 0, and the shot.
+#[no_mangle]
+pub extern "C" fn mola_read_shot(bytes: &[u8], shot: usize) -> ShotRead
+    ensures { λ r. ⌜ r ≡ shotRead (shotDue (now (bytes .entry)) shot) ⌝ }
+{
+    pedr_c::read_shot(bytes, shot)
 }
 
 // Opens the session with this packet at position 0. A refused opening leaves the session as it came.

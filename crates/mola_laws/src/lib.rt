@@ -1,8 +1,14 @@
 // The structs that C and Rust share with the exported functions. A contract may not name how its own crate's structs lie in memory, so that this
 // is a crate above `mola`.
 ghost use Rattle.mola_laws.specs.Layout.{StructLayouts};
+ghost use Rattle.mola_laws.specs.RecordLayout.{RecordLayouts};
 
-// Where the fields of each struct lie.
+// Where the fields of each struct of packets and of the reorder buffer's answers lie.
 pub fn struct_layouts()
     ensures { λ _. ⌜ StructLayouts ⌝ }
+{}
+
+// Where the fields of each struct of PEDR records lie.
+pub fn record_layouts()
+    ensures { λ _. ⌜ RecordLayouts ⌝ }
 {}

@@ -25,7 +25,7 @@ ghost use mathlib.Core.List.{map};
 ghost use Rattle.pedr_arrays.specs.Arrays.{shotClass, classesOf, arraysOf};
 ghost use Rattle.pedr.specs.Read.{readDue, readArrays, readUninterpreted};
 ghost use Rattle.pedr_shot.specs.Shot.{shotDue};
-ghost use Rattle.pedr_c.specs.Refused.{noFields, noNumbers, refusedRecord, noShot};
+ghost use Rattle.pedr_c.specs.Refused.{noPosition, noDescriptor, noReceiver, noFields, noNumbers, refusedRecord, noShot};
 ghost use Rattle.pedr_c.specs.Numbers.{shotClassNumber, shotNumbers, arrayNumbers, recordNumbers, oneShot, shotRead};
 ghost use Rattle.pedr_c.specs.Back.{shotsOfNumbers, arraysOfNumbers};
 
@@ -138,6 +138,44 @@ fn read_arrays(bytes: &[u8]) -> ArrayNumbers
     }
 }
 
+fn no_position() -> OrbitPosition
+    ensures { λ r. ⌜ r ≡ noPosition ⌝ }
+{
+    OrbitPosition {
+        orbit: 0,
+        latitude: 0,
+        longitude: 0,
+        radial_distance: 0,
+        ground_latitude: 0,
+        ground_longitude: 0,
+    }
+}
+
+fn no_descriptor() -> Descriptor
+    ensures { λ r. ⌜ r ≡ noDescriptor ⌝ }
+{
+    Descriptor {
+        packet_sum: false,
+        software_sum: false,
+        mode: false,
+        ots: false,
+        carried: 0,
+    }
+}
+
+fn no_receiver() -> Receiver
+    ensures { λ r. ⌜ r ≡ noReceiver ⌝ }
+{
+    Receiver {
+        channel_mask: 0,
+        minimum_hits: 0,
+        hit_count: 0,
+        frame_counter: 0,
+        trigger: 0,
+        frame_index: 0,
+    }
+}
+
 fn no_fields() -> RecordFields
     ensures { λ r. ⌜ r ≡ noFields ⌝ }
 {
@@ -146,26 +184,13 @@ fn no_fields() -> RecordFields
             whole: 0,
             micros: 0,
         },
-        position: OrbitPosition {
-            orbit: 0,
-            latitude: 0,
-            longitude: 0,
-            radial_distance: 0,
-            ground_latitude: 0,
-            ground_longitude: 0,
-        },
+        position: no_position(),
         quality: Quality {
             good: 0,
             carried: 0,
             counter: 0,
         },
-        descriptor: Descriptor {
-            packet_sum: false,
-            software_sum: false,
-            mode: false,
-            ots: false,
-            carried: 0,
-        },
+        descriptor: no_descriptor(),
         pointing: Pointing {
             right_ascension: 0,
             declination: 0,
@@ -177,14 +202,7 @@ fn no_fields() -> RecordFields
             delay: 0,
             width: 0,
         },
-        receiver: Receiver {
-            channel_mask: 0,
-            minimum_hits: 0,
-            hit_count: 0,
-            frame_counter: 0,
-            trigger: 0,
-            frame_index: 0,
-        },
+        receiver: no_receiver(),
         link: PacketLink {
             seconds: 0,
             millis: 0,

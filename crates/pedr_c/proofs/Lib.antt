@@ -1,0 +1,3 @@
+pub mod Classes
+pub mod Refused
+pub mod Back
