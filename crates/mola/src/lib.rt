@@ -6,8 +6,11 @@ use packet_layout::BINS;
 use packet_layout::READINGS;
 use packet_layout::TEMPERATURES;
 use packet_writer::PacketWritten;
+use pedr_c::ArrayNumbers;
 use pedr_c::RecordNumbers;
 use pedr_c::ShotRead;
+use pedr_fields::RecordFields;
+use pedr_writer::RecordWritten;
 use reorder_c_answers::Answer;
 use reorder_c_answers::Count;
 use reorder_c_answers::DESCRIPTION_NUMBERS;
@@ -22,6 +25,9 @@ ghost use Rattle.pedr_check.specs.Refusal.{recordRefusal};
 ghost use Rattle.pedr.specs.Read as pedr;
 ghost use Rattle.pedr_shot.specs.Shot.{shotDue};
 ghost use Rattle.pedr_c.specs.Numbers.{recordNumbers, shotRead};
+ghost use Rattle.pedr_c.specs.Back.{arraysOfNumbers};
+ghost use Rattle.pedr_write_check.specs.Refusal as pedr_write_check;
+ghost use Rattle.pedr_writer.specs.Write as pedr_writer;
 ghost use Rattle.reorder_c.specs.Calls.{OpensAs, OffersAs, ServesAs, DrainsAs, PassesAs};
 ghost use Rattle.mola.specs.Read.{noFields, asRead};
 
@@ -161,6 +167,25 @@ pub extern "C" fn mola_read_shot(bytes: &[u8], shot: usize) -> ShotRead
     ensures { λ r. ⌜ r ≡ shotRead (shotDue (now (bytes .entry)) shot) ⌝ }
 {
     pedr_c::read_shot(bytes, shot)
+}
+
+// Writes a record of these fields, arrays (a class by its number) and uninterpreted bytes into out: the refusal number, or 0. A refusal leaves out as it was.
+#[no_mangle]
+pub extern "C" fn mola_write_record(
+    fields: RecordFields,
+    arrays: ArrayNumbers,
+    uninterpreted: &[u8],
+    out: &mut [u8],
+) -> u8
+    ensures { λ r. ⌜ (r ≡ pedr_write_check.writeRefusal fields (arraysOfNumbers arrays) (now (uninterpreted .entry)) (now (out .entry)))
+        × (now (out .exit) ≡ pedr_writer.writeBytes fields (arraysOfNumbers arrays) (now (uninterpreted .entry)) (now (out .entry))) ⌝ }
+{
+    let given = pedr_c::arrays_of(arrays);
+    let written = pedr_writer::write_record(fields, given, uninterpreted, out);
+    match written {
+        RecordWritten::Refused(n) => n,
+        RecordWritten::Written => 0,
+    }
 }
 
 // Opens the session with this packet at position 0. A refused opening leaves the session as it came.

@@ -1,6 +1,5 @@
 pub mod Fill
 pub mod Read
-pub mod Numbers
 pub mod Store
 pub mod Ladder
 pub mod Codec

@@ -4,7 +4,7 @@ ghost use mathlib.Core.Path.{_≡_};
 ghost use Prim.Native.Nat.{_+_, min};
 ghost use lib.ListN.{length, getD};
 ghost use Rattle.octets.specs.Bytes.{natAt, intAt, signed, put};
-ghost use Rattle.octets.specs.Table.{octetsAt, natsAt};
+ghost use Rattle.octets.specs.Table.{octetsAt};
 
 // The byte at index i.
 pub fn u8_at(bytes: &[u8], i: usize) -> u8
@@ -102,30 +102,6 @@ pub fn read_into(bytes: &[u8], i: usize, out: &mut [u8])
     let mut k = 0;
     while k < out.len() {
         out[k] = u8_at(bytes, from + k);
-        k = k + 1;
-    }
-}
-
-// Fills out with the numbers in two bytes each from index i on.
-pub fn read_u16s(bytes: &[u8], i: usize, out: &mut [u16])
-    ensures { λ _. ⌜ now (out .exit) ≡ natsAt (now (bytes .entry)) i 2 (length (now (out .entry))) ⌝ }
-{
-    let from = least(i, bytes.len());
-    let mut k = 0;
-    while k < out.len() {
-        out[k] = u16_at(bytes, from + 2 * k);
-        k = k + 1;
-    }
-}
-
-// Fills out with the numbers in four bytes each from index i on.
-pub fn read_u32s(bytes: &[u8], i: usize, out: &mut [u32])
-    ensures { λ _. ⌜ now (out .exit) ≡ natsAt (now (bytes .entry)) i 4 (length (now (out .entry))) ⌝ }
-{
-    let from = least(i, bytes.len());
-    let mut k = 0;
-    while k < out.len() {
-        out[k] = u32_at(bytes, from + 4 * k);
         k = k + 1;
     }
 }

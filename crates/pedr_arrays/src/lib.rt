@@ -61,7 +61,7 @@ fn read_u16x20(bytes: &[u8], i: usize) -> [u16; SHOTS]
     ensures { λ r. ⌜ r ≡ natsAt (now (bytes .entry)) i 2 columns.shotCount ⌝ }
 {
     let mut numbers = [0u16; SHOTS];
-    octets::read_u16s(bytes, i, &mut numbers);
+    octets_runs::read_u16s(bytes, i, &mut numbers);
     numbers
 }
 
@@ -69,7 +69,7 @@ fn read_u32x20(bytes: &[u8], i: usize) -> [u32; SHOTS]
     ensures { λ r. ⌜ r ≡ natsAt (now (bytes .entry)) i 4 columns.shotCount ⌝ }
 {
     let mut numbers = [0u32; SHOTS];
-    octets::read_u32s(bytes, i, &mut numbers);
+    octets_runs::read_u32s(bytes, i, &mut numbers);
     numbers
 }
 
@@ -134,9 +134,9 @@ fn read_channel_arrays(bytes: &[u8]) -> ChannelArrays
     ensures { λ r. ⌜ r ≡ channelArraysOf (now (bytes .entry)) ⌝ }
 {
     let mut noise = [0u32; 8];
-    octets::read_u32s(bytes, 424, &mut noise);
+    octets_runs::read_u32s(bytes, 424, &mut noise);
     let mut thresholds = [0u16; 8];
-    octets::read_u16s(bytes, 464, &mut thresholds);
+    octets_runs::read_u16s(bytes, 464, &mut thresholds);
     ChannelArrays { noise, thresholds }
 }
 
@@ -153,7 +153,7 @@ fn read_source_header(bytes: &[u8]) -> [u32; 2]
     ensures { λ r. ⌜ r ≡ values (now (bytes .entry)) columns.sourceHeader ⌝ }
 {
     let mut header = [0u32; 2];
-    octets::read_u32s(bytes, 492, &mut header);
+    octets_runs::read_u32s(bytes, 492, &mut header);
     header
 }
 

@@ -90,7 +90,7 @@ fn read_class_numbers(bytes: &[u8]) -> [u16; SHOTS]
     ensures { λ r. ⌜ r ≡ map shotClassNumber (classesOf (now (bytes .entry))) ⌝ }
 {
     let mut numbers = [0u16; SHOTS];
-    octets::read_u16s(bytes, CLASS_AT, &mut numbers);
+    octets_runs::read_u16s(bytes, CLASS_AT, &mut numbers);
     numbers
 }
 

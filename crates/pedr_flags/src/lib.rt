@@ -4,6 +4,9 @@ use pedr_layout::QUALITY_NUMBER_AT;
 use pedr_layout::SHOTS;
 ghost use mathlib.Core.Path.{_≡_};
 ghost use Prim.Native.Nat.{_<_, _≤_};
+ghost use lib.Dec.{eqb};
+ghost use Rattle.numbers.specs.Bit.{bit};
+ghost use Rattle.octets.specs.Bytes.{natAt};
 ghost use Rattle.pedr_layout.specs.Layout.{shotCount};
 ghost use Rattle.pedr_flags.specs.Quality.{goodShot, goodCount, qualityOf};
 ghost use Rattle.pedr_flags.specs.Descriptor.{failed, descriptorOf, failuresOf, allFailuresOf};
@@ -130,10 +133,28 @@ fn read_failures(bytes: &[u8], shot: usize) -> ShotFailures
     }
 }
 
-// The tests of the 20 shots by a record's bytes; shot s stands at index s - 1.
+// The number in the eight bytes of the descriptor from index i on.
+fn descriptor_word(bytes: &[u8], i: usize) -> u64
+    requires { ⌜ i ≤ 40 ⌝ }
+    ensures { λ r. ⌜ r ≡ natAt (now (bytes .entry)) i 8 ⌝ }
+{
+    (octets::u32_at(bytes, i) as u64) * 4294967296 + octets::u32_at(bytes, i + 4) as u64
+}
+
+// Whether bit k of a word is one.
+fn is_set(word: u64, k: usize) -> bool
+    requires { ⌜ k < 64 ⌝ }
+    ensures { λ r. ⌜ r ≡ eqb (bit word k) 1 ⌝ }
+{
+    (word >> k) & 1 == 1
+}
+
+// The tests of the 20 shots by a record's bytes; shot s stands at index s - 1. Bits 0 to 63 of the descriptor are one word, and bits 64 to 127 another.
 pub fn read_all_failures(bytes: &[u8]) -> [ShotFailures; SHOTS]
     ensures { λ r. ⌜ r ≡ allFailuresOf (now (bytes .entry)) ⌝ }
 {
+    let low = descriptor_word(bytes, 40);
+    let high = descriptor_word(bytes, 32);
     let mut failures = [ShotFailures {
         power: false,
         energy: false,
@@ -143,7 +164,13 @@ pub fn read_all_failures(bytes: &[u8]) -> [ShotFailures; SHOTS]
     }; SHOTS];
     let mut k = 0;
     while k < SHOTS {
-        failures[k] = read_failures(bytes, k + 1);
+        failures[k] = ShotFailures {
+            power: is_set(low, 4 + k),
+            energy: is_set(low, 24 + k),
+            range: is_set(low, 44 + k),
+            window: is_set(high, k),
+            comparison: is_set(high, 20 + k),
+        };
         k = k + 1;
     }
     failures

@@ -1,1 +1,2 @@
 pub mod Accept
+pub mod Together

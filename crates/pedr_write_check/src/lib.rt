@@ -38,28 +38,18 @@ fn are_proper(classes: [ShotClass; SHOTS]) -> bool
     all
 }
 
-// Whether each part of an encoder byte has two bits.
-fn has_two_bits(encoder: Encoder) -> bool
-    ensures { λ r. ⌜ r ≡ hasTwoBits encoder ⌝ }
-{
-    let low = (encoder.start < 4) & (encoder.carried_low < 4);
-    let high = (encoder.stop < 4) & (encoder.carried_high < 4);
-    low & high
-}
-
-// Whether that is so of each encoder byte.
+// Whether each part of each encoder byte has two bits: whether all of them together have no other.
 fn have_two_bits(encoders: [Encoder; SHOTS]) -> bool
     ensures { λ r. ⌜ r ≡ each hasTwoBits encoders ⌝ }
 {
-    let mut all = true;
+    let mut bits: u8 = 0;
     let mut k = 0;
     while k < SHOTS {
         let encoder = encoders[k];
-        let fits = has_two_bits(encoder);
-        all = all & fits;
+        bits = bits | encoder.start | encoder.carried_low | encoder.stop | encoder.carried_high;
         k = k + 1;
     }
-    all
+    bits < 4
 }
 
 // Refusals 13 to 15, 40, 49 and 41, or 0.

@@ -1,19 +1,23 @@
--- One law of loops that test each element.
-use Prim.Native.Nat.{_-_}
-use mathlib.Core.Path.{_≡_}
+-- One law of loops that test each element, at the bits of the parts so far.
+use Prim.Native.Nat.{ℕ, _+_, _-_}
+use mathlib.Core.Path.{_≡_, sym, subst, refl}
+use mathlib.Core.Bool.{Bool}
 use native.Mathlib.Omega.{arith}
-use lib.ListN.{length}
+use lib.Dec.{ltb}
+use lib.ListN.{length, getD}
 use Rattle.octets.proofs.Each.{Tested, tested-none, tested-more, tested-all}
+use Rattle.pedr_flags.specs.Encoder.{encoderOf}
 use Rattle.pedr_write_check.specs.Refusal.{hasTwoBits}
+use Rattle.pedr_write_check.proofs.Together.{together}
 use borrow.Author.Needs.{needs}
 use Rattle.pedr_write_check.proofs.have_two_bits.Statement.{statement}
 use Rattle.pedr_write_check.proofs.have_two_bits.Tie as tie
 
 abbrev Inv-loop : tie.InvT-loop
-Inv-loop encoders all₀ k₀ all k = Tested hasTwoBits encoders all k
+Inv-loop encoders bits₀ k₀ bits k = Tested hasTwoBits encoders (ltb bits 4) k
 
 abbrev μ-loop : tie.MeasureT-loop
-μ-loop encoders all₀ k₀ all k = 20 - k
+μ-loop encoders bits₀ k₀ bits k = 20 - k
 
 -- the array's length, by its type
 shots : (s : tie.Start Inv-loop μ-loop) → length (s .args .t1) ≡ 20
@@ -21,17 +25,20 @@ shots s = search needs
 
 loop-again : tie.Need-loop-again Inv-loop μ-loop
 loop-again c =
-    let l = c .before .before .before .loop in
-    let s = c .before .before .before .before in
+    let l = c .before .before .before .before .before .before .loop in
+    let s = c .before .before .before .before .before .before .before in
+    let es = s .args .t1 in
+    let e = getD es (l .k) (encoderOf 0) in
     let n = shots s in
-    tested-more hasTwoBits (s .args .t1) (l .all) (l .k) _ _ (omega arith) (c .has-two-bits .ensures) (l .inv)
+    subst (λ (t : Bool). Tested hasTwoBits es t (l .k + 1)) (sym (together (l .bits) e))
+    (tested-more hasTwoBits es (ltb (l .bits) 4) (l .k) (encoderOf 0) (hasTwoBits e) (omega arith) refl (l .inv))
 
 returns : tie.Need-returns Inv-loop μ-loop
 returns c =
     let l = c .before .loop in
     let s = c .before .before in
     let n = shots s in
-    tested-all hasTwoBits (s .args .t1) (l .all) (l .k) (omega arith) (l .inv)
+    tested-all hasTwoBits (s .args .t1) (ltb (l .bits) 4) (l .k) (omega arith) (l .inv)
 
 pub have-two-bits-spec : {M : Type 1} → statement M
 have-two-bits-spec =
@@ -42,7 +49,6 @@ have-two-bits-spec =
     (λ c. tested-none hasTwoBits (c .args .t1))
     (λ c. omega arith)
     (λ c. omega arith)
-    (λ c κs. search needs)
     (λ c. omega arith)
     (λ c. omega arith)
     loop-again
