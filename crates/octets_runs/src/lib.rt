@@ -88,9 +88,9 @@ fn read_u32s_within(bytes: &[u8], i: usize, out: &mut [u32])
     let mut k = 0;
     while k < out.len() {
         let at = i + 4 * k;
-        out[k] = ((wide_32(bytes[at]) * 256 + wide_32(bytes[at + 1])) * 256
-            + wide_32(bytes[at + 2]))
-            * 256
+        out[k] = wide_32(bytes[at]) * 16777216
+            + wide_32(bytes[at + 1]) * 65536
+            + wide_32(bytes[at + 2]) * 256
             + wide_32(bytes[at + 3]);
         k = k + 1;
     }

@@ -113,20 +113,31 @@ fn read_encoders(bytes: &[u8]) -> [Encoder; SHOTS]
     encoders
 }
 
+// The radii last, behind the loops, so that the compiler reads each number by one load.
 fn read_shot_arrays(bytes: &[u8]) -> ShotArrays
     ensures { λ r. ⌜ r ≡ shotArraysOf (now (bytes .entry)) ⌝ }
 {
+    let energy = read_u16x20(bytes, ENERGY_AT);
+    let reflectivity = read_u16x20(bytes, REFLECTIVITY_AT);
+    let trigger_channel = read_u8x20(bytes, TRIGGER_CHANNEL_AT);
+    let pulse_width = read_u16x20(bytes, PULSE_WIDTH_AT);
+    let optical_width = read_u16x20(bytes, OPTICAL_WIDTH_AT);
+    let laser_power = read_u16x20(bytes, LASER_POWER_AT);
+    let class = read_classes(bytes);
+    let encoder = read_encoders(bytes);
+    let failures = pedr_flags::read_all_failures(bytes);
+    let radius = read_u32x20(bytes, RADIUS_AT);
     ShotArrays {
-        radius: read_u32x20(bytes, RADIUS_AT),
-        energy: read_u16x20(bytes, ENERGY_AT),
-        reflectivity: read_u16x20(bytes, REFLECTIVITY_AT),
-        trigger_channel: read_u8x20(bytes, TRIGGER_CHANNEL_AT),
-        pulse_width: read_u16x20(bytes, PULSE_WIDTH_AT),
-        optical_width: read_u16x20(bytes, OPTICAL_WIDTH_AT),
-        laser_power: read_u16x20(bytes, LASER_POWER_AT),
-        class: read_classes(bytes),
-        encoder: read_encoders(bytes),
-        failures: pedr_flags::read_all_failures(bytes),
+        radius,
+        energy,
+        reflectivity,
+        trigger_channel,
+        pulse_width,
+        optical_width,
+        laser_power,
+        class,
+        encoder,
+        failures,
     }
 }
 

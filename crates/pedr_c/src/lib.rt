@@ -261,7 +261,7 @@ fn refused_record(refusal: u32) -> RecordNumbers
     }
 }
 
-// Reads a record. Any bytes.
+// Reads a record. Any bytes. The fields last, behind the loops, so that the compiler reads each number by one load.
 pub fn read_record(bytes: &[u8]) -> RecordNumbers
     ensures { λ r. ⌜ r ≡ recordNumbers (readDue (now (bytes .entry))) (readArrays (now (bytes .entry))) (readUninterpreted (now (bytes .entry))) ⌝ }
 {
@@ -269,11 +269,14 @@ pub fn read_record(bytes: &[u8]) -> RecordNumbers
     if n != 0 {
         return refused_record(n as u32);
     }
+    let uninterpreted = pedr_arrays::read_uninterpreted(bytes);
+    let arrays = read_arrays(bytes);
+    let fields = pedr_fields::read_fields(bytes);
     RecordNumbers {
         refusal: 0,
-        fields: pedr_fields::read_fields(bytes),
-        arrays: read_arrays(bytes),
-        uninterpreted: pedr_arrays::read_uninterpreted(bytes),
+        fields,
+        arrays,
+        uninterpreted,
     }
 }
 

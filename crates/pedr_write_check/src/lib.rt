@@ -9,6 +9,7 @@ use pedr_layout::SHOTS;
 use pedr_layout::UNINTERPRETED;
 ghost use mathlib.Core.Path.{_≡_};
 ghost use Rattle.octets.specs.Table.{each};
+ghost use Rattle.pedr_write_check.specs.Together.{bytesHaveTwoBits};
 ghost use Rattle.pedr_write_check.specs.Refusal.{isProper, isProperShot, hasTwoBits, writeRefusal};
 
 // Whether a class is given by its name, if it has one.
@@ -38,18 +39,37 @@ fn are_proper(classes: [ShotClass; SHOTS]) -> bool
     all
 }
 
-// Whether each part of each encoder byte has two bits: whether all of them together have no other.
+// The four parts of an encoder byte, a byte each, as one number.
+fn encoder_word(encoder: Encoder) -> u32
+    ensures { λ r. ⌜ bytesHaveTwoBits r ≡ hasTwoBits encoder ⌝ }
+{
+    encoder.start as u32
+        + encoder.carried_low as u32 * 256
+        + encoder.stop as u32 * 65536
+        + encoder.carried_high as u32 * 16777216
+}
+
+// Whether each byte of a number has two bits.
+fn bytes_have_two_bits(word: u32) -> bool
+    ensures { λ r. ⌜ r ≡ bytesHaveTwoBits word ⌝ }
+{
+    let low = (word % 256 < 4) & (word / 256 % 256 < 4);
+    let high = (word / 65536 % 256 < 4) & (word / 16777216 % 256 < 4);
+    low & high
+}
+
+// Whether each part of each encoder byte has two bits: whether all of them together have no other bit.
 fn have_two_bits(encoders: [Encoder; SHOTS]) -> bool
     ensures { λ r. ⌜ r ≡ each hasTwoBits encoders ⌝ }
 {
-    let mut bits: u8 = 0;
+    let mut bits: u32 = 0;
     let mut k = 0;
     while k < SHOTS {
         let encoder = encoders[k];
-        bits = bits | encoder.start | encoder.carried_low | encoder.stop | encoder.carried_high;
+        bits = bits | encoder_word(encoder);
         k = k + 1;
     }
-    bits < 4
+    bytes_have_two_bits(bits)
 }
 
 // Refusals 13 to 15, 40, 49 and 41, or 0.

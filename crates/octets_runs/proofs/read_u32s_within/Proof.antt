@@ -21,10 +21,13 @@ loop-again : tie.Need-loop-again Inv-loop μ-loop
 loop-again c =
     let l = c .before .before .before .before .before .before .before .before .before .loop in
     let a = c .before .before .before .before .before .before .before .before .before .before .before .before .args in
-    let h = c .before .before .before .before .before .before .before .before .loop-test .taken in
-    (l .inv .0, rw length-set (l .inv .1), fill-more (numberOf (now (a .bytes)) (a .i) 4) (now (a .out)) (l .out) (l .k) _ (omega arith)
-    (λ i. ((c .before .before .before .before .before .before .wide-32 .ensures .0 i * 256 + c .before .before .before .before .wide-322 .ensures .0 i) * 256 + c .before .before .wide-323 .ensures .0 i) * 256 + c .wide-324 .ensures .0 i)
-    (l .inv .2))
+    let h = c .before .before .before .before .before .before .before .before .loop-test .taken in (
+      l .inv .0,
+      rw length-set (l .inv .1),
+      fill-more (numberOf (now (a .bytes)) (a .i) 4) (now (a .out)) (l .out) (l .k) _ (omega arith)
+          (omega (arith, c .before .before .before .before .before .before .wide-32 .ensures .0, c .before .before .before .before .wide-322 .ensures .0, c .before .before .wide-323 .ensures .0))
+          (l .inv .2),
+    )
 
 returns : tie.Need-returns Inv-loop μ-loop
 unfolding natsAt

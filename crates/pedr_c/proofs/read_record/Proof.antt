@@ -22,13 +22,13 @@ returns-2 c =
     let b = c .before .before .before in
     let s = now (b .before .before .before .args .bytes) in
     let z = sym (b .before .record-refusal .ensures) ∙ b .if1 .left in
-    let d = say-answered _ (fieldsOf s) _ z (c .before .before .read-fields .ensures) in
+    let d = say-answered _ (fieldsOf s) _ z (c .read-fields .ensures) in
     let a = c .before .read-arrays .ensures ∙ ap arrayNumbers (after-done _ (arraysOf s) noArrays _ z refl) in
     λ i. record {
       refusal = ap refusalIn d i;
       fields = ap fieldsIn d i;
       arrays = a i;
-      uninterpreted = after-done _ (uninterpretedOf s) noUninterpreted _ z (c .read-uninterpreted .ensures) i;
+      uninterpreted = after-done _ (uninterpretedOf s) noUninterpreted _ z (c .before .before .read-uninterpreted .ensures) i;
     }
 
 pub read-record-spec : {M : Type 1} → statement M
