@@ -35,7 +35,7 @@ LEGEND = (
     "record: time whole micros in_micros, position orbit latitude longitude radial_distance ground_latitude ground_longitude, "
     "quality good carried counter, descriptor packet_sum software_sum mode ots carried, pointing right_ascension declination twist, "
     "ranges mid_point_range frame_radius delay width, receiver channel_mask minimum_hits hit_count frame_counter trigger frame_index, "
-    "packet seconds millis fine_time, xyz, header, digests of the 20 shots and of the 8 channels",
+    "packet seconds millis fine_time, xyz, header, digests of the 20 shots, of the 8 channels and of the uninterpreted bytes",
     "shot: radius energy reflectivity trigger_channel pulse_width optical_width laser_power, "
     "class_case (0 no trigger, 1 probable ground, 2 unassigned) class_number, encoder start carried_low stop carried_high, "
     "failures power energy range window comparison, good",
@@ -63,10 +63,10 @@ def change(room, step, b, number):
 
 
 def long_columns(read, full):
-    """The digests of the shots and the channels, after their numbers where these are asked for."""
+    """The digests of the shots, the channels and the uninterpreted bytes, after the numbers of the first two where these are asked for."""
     shots = [pedr_record.shot_numbers(read, shot) for shot in range(1, 21)]
     channels = [pedr_record.channel_numbers(read, channel) for channel in range(1, 9)]
-    digests = spaced(digest(sum(numbers, []), SHORT) for numbers in (shots, channels))
+    digests = spaced(digest(numbers, SHORT) for numbers in (sum(shots, []), sum(channels, []), read["uninterpreted"]))
     if not full:
         return f", digests{digests}"
     in_full = [f"\n  shot {k}:{spaced(numbers)}" for k, numbers in enumerate(shots, start=1)]

@@ -1,4 +1,4 @@
-"""The PEDR record by document 01: its columns, its bits and the refusals. Sections named here are that document's."""
+"""The PEDR record by document 01: its columns, its bits and the refusals; and its writer by request 1. Sections named here are document 01's."""
 import re
 
 RECORD_SIZE = 776
@@ -18,6 +18,12 @@ COLUMNS = [COLUMN.fullmatch(column.strip()).groups() for column in LAYOUT.split(
 # Section PEDR record, the descriptor: the bit of each test of the packet and the frame, and the bit before the one of shot 1.
 FRAME_TESTS = {"packet_sum": 0, "software_sum": 1, "mode": 2, "ots": 3}
 SHOT_TESTS = {"power": 3, "energy": 23, "range": 43, "window": 63, "comparison": 83}
+# Section PEDR record, the encoder bytes: the lowest bit of each part, two bits wide.
+ENCODER_PARTS = {"start": 0, "carried_low": 2, "stop": 4, "carried_high": 6}
+# Section PEDR record: the record bytes that are not interpreted.
+UNINTERPRETED = [*range(509, 621), *range(641, 777)]
+# Request 1: how many bits there are for a number that is given.
+WIDTHS = {"good": 20, "quality_carried": 4, "descriptor_carried": 24}
 
 
 def bits(number, low, width):
@@ -49,6 +55,11 @@ def refusal(record):
     read = columns(record)
     if read["counter"] != good_shots(read["quality"]):
         return 12
+    return value_refusal(read)
+
+
+def value_refusal(read):
+    """Section Refusal numbers: 13 to 15 in this order. 0 where none is due."""
     if abs(read["micros"]) > 999_999:
         return 13
     if abs(read["latitude"]) > 90_000_000:
@@ -67,7 +78,7 @@ def shot_refusal(record, shot):
 
 
 def fields(record):
-    """The columns of an accepted record, and the parts of its time, quality and descriptor."""
+    """The columns of an accepted record, the parts of its time, quality and descriptor, and the bytes that are not interpreted."""
     read = columns(record)
     read["in_micros"] = read["whole"] * 1_000_000 + read["micros"]
     read["good"] = bits(read["quality"], 0, 20)
@@ -75,6 +86,7 @@ def fields(record):
     for name, bit in FRAME_TESTS.items():
         read[name] = bits(read["descriptor"], bit, 1)
     read["descriptor_carried"] = bits(read["descriptor"], 104, 24)
+    read["uninterpreted"] = [record[b - 1] for b in UNINTERPRETED]
     return read
 
 
@@ -91,7 +103,7 @@ def shot_numbers(read, shot):
     return (
         [read[name][shot - 1] for name in names]
         + [class_case(number), number]
-        + [bits(encoder, low, 2) for low in (0, 2, 4, 6)]
+        + [bits(encoder, low, 2) for low in ENCODER_PARTS.values()]
         + [bits(read["descriptor"], before + shot, 1) for before in SHOT_TESTS.values()]
     )
 
@@ -104,3 +116,61 @@ def is_good(read, shot):
 def channel_numbers(read, channel):
     """The noise and the threshold of a channel from 1 to 8."""
     return [read["noise"][channel - 1], read["thresholds"][channel - 1]]
+
+
+def to_write(record):
+    """What the writer is given for an accepted record: its fields, and for each shot a class (its case and its number), the encoder's parts and the tests."""
+    read = fields(record)
+    combined = ("quality", "in_micros", "descriptor", "encoder")
+    given = {name: value for name, value in read.items() if name not in combined}
+    given["class"] = [(class_case(number), number) for number in read["class"]]
+    for part, low in ENCODER_PARTS.items():
+        given[part] = [bits(byte, low, 2) for byte in read["encoder"]]
+    for test, before in SHOT_TESTS.items():
+        given[f"{test}_test"] = [bits(read["descriptor"], before + shot, 1) for shot in range(1, 21)]
+    return given
+
+
+def write_refusal(given, output_size):
+    """Request 1: 13 to 15, 40, 49 and 41 in this order. 0 where the record is written."""
+    number = value_refusal(given)
+    if number:
+        return number
+    if any(case == 2 and of_class in (0, 1) for case, of_class in given["class"]):
+        return 40
+    parts = [part for name in ENCODER_PARTS for part in given[name]]
+    if any(given[name] >> width for name, width in WIDTHS.items()) or any(part >> 2 for part in parts):
+        return 49
+    if len(given["uninterpreted"]) != len(UNINTERPRETED):
+        return 49
+    if output_size != RECORD_SIZE:
+        return 41
+    return 0
+
+
+def descriptor(given):
+    """Section PEDR record, the descriptor, as one number of 128 bits."""
+    tests = [given[name] << bit for name, bit in FRAME_TESTS.items()]
+    for test, before in SHOT_TESTS.items():
+        tests += [bit << before + shot for shot, bit in enumerate(given[f"{test}_test"], start=1)]
+    return sum(tests) + (given["descriptor_carried"] << 104)
+
+
+def written(given):
+    """The record of what is given and not refused. Its columns and the uninterpreted bytes have each record byte once."""
+    read = given | {
+        "quality": given["good"] + (given["quality_carried"] << 20),
+        "counter": good_shots(given["good"]),
+        "descriptor": descriptor(given),
+        "class": [number for _, number in given["class"]],
+        "encoder": [sum(given[part][k] << low for part, low in ENCODER_PARTS.items()) for k in range(20)],
+    }
+    placed = list(zip(UNINTERPRETED, given["uninterpreted"], strict=True))
+    for at, name, sign, width, items in COLUMNS:
+        numbers = read[name] if items else [read[name]]
+        octets = b"".join(number.to_bytes(int(width), "big", signed=sign == "i") for number in numbers)
+        placed += enumerate(octets, start=int(at))
+    placed.sort()
+    if [b for b, _ in placed] != list(range(1, RECORD_SIZE + 1)):
+        raise ValueError("the columns do not cover the record, each byte once")
+    return bytes(octet for _, octet in placed)

@@ -1,16 +1,9 @@
 // Runs of numbers in lent bytes, the most significant byte first. Every function takes any slice and any index: a byte past the end is read as 0.
 ghost use mathlib.Core.Path.{_≡_};
-ghost use Prim.Native.Nat.{_+_, _*_, _<_, _≤_, min};
+ghost use Prim.Native.Nat.{_+_, _*_, _<_, _≤_};
 ghost use lib.Dec.{leb};
 ghost use lib.ListN.{length};
 ghost use Rattle.octets.specs.Table.{natsAt};
-
-// The smaller of two numbers.
-fn least(a: usize, b: usize) -> usize
-    ensures { λ r. ⌜ r ≡ min a b ⌝ }
-{
-    if a < b { a } else { b }
-}
 
 // Whether n numbers of two bytes each lie within so many bytes from index i on.
 fn has_u16s(size: usize, i: usize, n: usize) -> bool
@@ -61,7 +54,7 @@ fn read_u16s_within(bytes: &[u8], i: usize, out: &mut [u16])
 fn read_u16s_past(bytes: &[u8], i: usize, out: &mut [u16])
     ensures { λ _. ⌜ now (out .exit) ≡ natsAt (now (bytes .entry)) i 2 (length (now (out .entry))) ⌝ }
 {
-    let from = least(i, bytes.len());
+    let from = octets::least(i, bytes.len());
     let mut k = 0;
     while k < out.len() {
         out[k] = octets::u16_at(bytes, from + 2 * k);
@@ -100,7 +93,7 @@ fn read_u32s_within(bytes: &[u8], i: usize, out: &mut [u32])
 fn read_u32s_past(bytes: &[u8], i: usize, out: &mut [u32])
     ensures { λ _. ⌜ now (out .exit) ≡ natsAt (now (bytes .entry)) i 4 (length (now (out .entry))) ⌝ }
 {
-    let from = least(i, bytes.len());
+    let from = octets::least(i, bytes.len());
     let mut k = 0;
     while k < out.len() {
         out[k] = octets::u32_at(bytes, from + 4 * k);

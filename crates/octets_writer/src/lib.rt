@@ -1,7 +1,6 @@
 // Numbers stored in lent bytes, the most significant byte first. Every function takes any slice and any index: a byte that would be stored past the
 // end is left out.
 ghost use mathlib.Core.Path.{_≡_};
-ghost use Prim.Native.Nat.{min};
 ghost use Rattle.octets.specs.Bytes.{octetsOf, complemented, put};
 ghost use Rattle.octets.specs.Table.{octetsAt, octetsOfAll};
 
@@ -100,20 +99,13 @@ pub fn write_i32(x: i32, i: usize, out: &mut [u8])
     write_u32(i32_bits(x), i, out);
 }
 
-// The smaller of two numbers.
-fn least(a: usize, b: usize) -> usize
-    ensures { λ r. ⌜ r ≡ min a b ⌝ }
-{
-    if a < b { a } else { b }
-}
-
 // Stores n bytes, from index i on, in out from index at on; a byte past the end is read as 0.
 pub fn copy_part(bytes: &[u8], i: usize, n: usize, at: usize, out: &mut [u8])
     ensures { λ _. ⌜ now (out .exit) ≡ put (now (out .entry)) at (octetsAt (now (bytes .entry)) i n) ⌝ }
 {
-    let from = least(i, bytes.len());
-    let to = least(at, out.len());
-    let count = least(n, out.len() - to);
+    let from = octets::least(i, bytes.len());
+    let to = octets::least(at, out.len());
+    let count = octets::least(n, out.len() - to);
     let mut k = 0;
     while k < count {
         out[to + k] = octets::u8_at(bytes, from + k);
@@ -132,7 +124,7 @@ pub fn write_u8s(numbers: &[u8], i: usize, out: &mut [u8])
 pub fn write_u16s(numbers: &[u16], i: usize, out: &mut [u8])
     ensures { λ _. ⌜ now (out .exit) ≡ put (now (out .entry)) i (octetsOfAll 2 (now (numbers .entry))) ⌝ }
 {
-    let from = least(i, out.len());
+    let from = octets::least(i, out.len());
     let mut k = 0;
     while k < numbers.len() {
         write_u16(numbers[k], from + 2 * k, out);
@@ -144,7 +136,7 @@ pub fn write_u16s(numbers: &[u16], i: usize, out: &mut [u8])
 pub fn write_u32s(numbers: &[u32], i: usize, out: &mut [u8])
     ensures { λ _. ⌜ now (out .exit) ≡ put (now (out .entry)) i (octetsOfAll 4 (now (numbers .entry))) ⌝ }
 {
-    let from = least(i, out.len());
+    let from = octets::least(i, out.len());
     let mut k = 0;
     while k < numbers.len() {
         write_u32(numbers[k], from + 4 * k, out);

@@ -7,7 +7,7 @@ use lib.ListN.{replicate}
 use Rattle.octets.specs.Table.{table}
 use Rattle.layout.specs.Column.{item, values}
 use Rattle.pedr_layout.specs.Layout as columns
-use Rattle.pedr_flags.specs.Class.{classOf}
+use Rattle.pedr_flags.specs.Class.{classOf, classNumber}
 use Rattle.pedr_flags.specs.Encoder.{encoderOf}
 use Rattle.pedr_flags.specs.Descriptor.{allFailuresOf}
 use Rattle.pedr_flags.specs.declared.Encoder.{Encoder}
@@ -20,6 +20,10 @@ use Rattle.pedr_arrays.specs.declared.RecordArrays.{RecordArrays}
 -- the 20 classes and encoder bits; shot s stands at index s - 1
 abbrev pub shotClass : ℕ → ShotClass
 shotClass n = record { class = classOf n }
+
+-- the number of a shot's class
+abbrev pub shotClassNumber : ShotClass → ℕ
+shotClassNumber c = classNumber (c .class)
 
 unfoldable pub classesOf : List ℕ → List ShotClass
 classesOf s = table columns.shotCount (λ k. shotClass (item s columns.class k))

@@ -9,24 +9,19 @@ use Rattle.octets.proofs.Fill.{table-same, map-table}
 use Rattle.layout.specs.Column.{item, values}
 use Rattle.pedr_layout.specs.Layout.{class}
 use Rattle.pedr_flags.specs.Class.{classOf, classNumber}
-use Rattle.pedr_arrays.specs.Arrays.{shotClass, classesOf}
-use Rattle.pedr_c.specs.Numbers.{shotClassNumber}
-
-class-kept : (n : ℕ) → classNumber (classOf n) ≡ n
-class-kept zero = refl
-class-kept (suc zero) = refl
-class-kept (suc (suc n)) = simp (ne-eqb (suc (suc n)) 0 (λ e. omega arith), ne-eqb (suc (suc n)) 1 (λ e. omega arith))
+use Rattle.pedr_flags_writer.proofs.Codes.{class-whole}
+use Rattle.pedr_arrays.specs.Arrays.{shotClass, classesOf, shotClassNumber}
 
 -- numbers, their classes, and the numbers of these
 pub numbers-kept : (ns : List ℕ) → map shotClassNumber (map shotClass ns) ≡ ns
 numbers-kept [] = refl
-numbers-kept (n ∷ ns) = let k = numbers-kept ns in λ i. class-kept n i ∷ k i
+numbers-kept (n ∷ ns) = let k = numbers-kept ns in λ i. class-whole n i ∷ k i
 
 -- the column of the classes is their numbers
 pub column-numbers : (s : List ℕ) → values s class ≡ map shotClassNumber (classesOf s)
 unfolding classesOf natsAt
 column-numbers s =
-    sym (map-table shotClassNumber 20 (λ k. shotClass (item s class k)) ∙ table-same 20 _ _ (λ k. class-kept (item s class k)))
+    sym (map-table shotClassNumber 20 (λ k. shotClass (item s class k)) ∙ table-same 20 _ _ (λ k. class-whole (item s class k)))
 
 -- classes of a column, their numbers, and the classes of these
 pub classes-kept : (s : List ℕ) → map shotClass (map shotClassNumber (classesOf s)) ≡ classesOf s

@@ -3,7 +3,7 @@ use Prim.Native.Nat.{ℕ}
 use mathlib.Core.List.{List, map}
 use Rattle.octets.specs.Refusal.{Said, refused, answered, refusalIn}
 use Rattle.pedr_flags.specs.Class.{classNumber}
-use Rattle.pedr_arrays.specs.declared.ShotClass.{ShotClass}
+use Rattle.pedr_arrays.specs.Arrays.{shotClassNumber}
 use Rattle.pedr_arrays.specs.declared.ShotArrays.{ShotArrays}
 use Rattle.pedr_arrays.specs.declared.RecordArrays.{RecordArrays}
 use Rattle.pedr_fields.specs.declared.RecordFields.{RecordFields}
@@ -16,9 +16,6 @@ use Rattle.pedr_c.specs.declared.OneShot.{OneShot}
 use Rattle.pedr_c.specs.declared.ShotRead.{ShotRead}
 
 -- ---- a record
-
-abbrev pub shotClassNumber : ShotClass → ℕ
-shotClassNumber c = classNumber (c .class)
 
 unfoldable pub shotNumbers : ShotArrays → ShotNumbers
 shotNumbers a =

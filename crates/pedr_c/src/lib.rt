@@ -22,11 +22,11 @@ use pedr_shot::ShotAnswer;
 use pedr_shot::ShotFields;
 ghost use mathlib.Core.Path.{_≡_};
 ghost use mathlib.Core.List.{map};
-ghost use Rattle.pedr_arrays.specs.Arrays.{shotClass, classesOf, arraysOf};
+ghost use Rattle.pedr_arrays.specs.Arrays.{shotClass, classesOf, arraysOf, shotClassNumber};
 ghost use Rattle.pedr.specs.Read.{readDue, readArrays, readUninterpreted};
 ghost use Rattle.pedr_shot.specs.Shot.{shotDue};
 ghost use Rattle.pedr_c.specs.Refused.{noPosition, noDescriptor, noReceiver, noFields, noNumbers, refusedRecord, noShot};
-ghost use Rattle.pedr_c.specs.Numbers.{shotClassNumber, shotNumbers, arrayNumbers, recordNumbers, oneShot, shotRead};
+ghost use Rattle.pedr_c.specs.Numbers.{shotNumbers, arrayNumbers, recordNumbers, oneShot, shotRead};
 ghost use Rattle.pedr_c.specs.Back.{shotsOfNumbers, arraysOfNumbers};
 
 // The columns of 20 shots, a class by its number; shot s stands at index s - 1.

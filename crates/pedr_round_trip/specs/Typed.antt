@@ -10,7 +10,7 @@ use Rattle.pedr_layout.specs.Layout as columns
 use Rattle.pedr_arrays.specs.declared.ShotArrays.{ShotArrays}
 use Rattle.pedr_arrays.specs.declared.RecordArrays.{RecordArrays}
 use Rattle.pedr_fields.specs.declared.RecordFields.{RecordFields}
-use Rattle.pedr_writer.specs.Parts.{shotClassNumber}
+use Rattle.pedr_arrays.specs.Arrays.{shotClassNumber}
 
 pub record TypedFields (f : RecordFields) : Type 0 where
   pub whole : SignedFits 32 (f .time .whole)

@@ -12,7 +12,7 @@ ghost use mathlib.Core.List.{map};
 ghost use lib.ListN.{length};
 ghost use Rattle.layout.specs.Column.{unsigned, complement, HoldsAll};
 ghost use Rattle.pedr.specs.Read.{recordSaid};
-ghost use Rattle.pedr_writer.specs.Parts.{shotClassNumber};
+ghost use Rattle.pedr_arrays.specs.Arrays.{shotClassNumber};
 ghost use Rattle.pedr_writer.specs.Write.{writtenSaid, writeDue, writeBytes};
 ghost use Rattle.pedr_round_trip.specs.Typed.{TypedFields, TypedArrays};
 ghost use Rattle.pedr_round_trip.specs.RoundTrip.{WritesBack, ReadsBack, copyDue, copyBytes, echoDue, echoArrays, echoUninterpreted};

@@ -63,7 +63,7 @@ const CASES: [u64; COUNT] = [
     SHOT + 10,
     SHOT + 19,
     SHOT + 20,
-    // Bytes that are not interpreted: the answer stays that of the fill.
+    // Bytes that are not interpreted: but for their digest, the answer stays that of the fill.
     COUNTING + READ,
     COUNTING + READ + FLIP + 509 * BYTE + 7,
     COUNTING + READ + FLIP + 620 * BYTE + 7,

@@ -6,6 +6,7 @@ use crate::shots;
 use crate::show;
 use pedr::RecordAnswer;
 use pedr_arrays::RecordArrays;
+use pedr_layout::UNINTERPRETED;
 use pedr_shot::ShotAnswer;
 use pedr_shot::ShotFields;
 
@@ -22,8 +23,8 @@ fn refused(n: u8) {
     show::entry(n as u64);
 }
 
-// X, Y, Z, the source header, and the digests of the longer arrays, after those arrays where they are asked for in full.
-fn show_arrays(arrays: RecordArrays, full: bool) {
+// X, Y, Z, the source header, and the digests of the longer arrays, after those of shots and channels where they are asked for in full.
+fn show_arrays(arrays: RecordArrays, uninterpreted: [u8; UNINTERPRETED], full: bool) {
     let xyz = arrays.xyz;
     let header = arrays.source_header;
     show::text(b", xyz");
@@ -42,6 +43,7 @@ fn show_arrays(arrays: RecordArrays, full: bool) {
     }
     show::entry(of_shots);
     show::entry(of_channels);
+    show::entry(show::digest(&uninterpreted));
 }
 
 fn read(row: u64, bytes: &[u8]) {
@@ -49,11 +51,12 @@ fn read(row: u64, bytes: &[u8]) {
     let record = pedr::read_record(bytes);
     let answer = record.answer;
     let arrays = record.arrays;
+    let uninterpreted = record.uninterpreted;
     match answer {
         RecordAnswer::Refused(n) => refused(n),
         RecordAnswer::Accepted(f) => fields::show_fields(f),
     }
-    show_arrays(arrays, full);
+    show_arrays(arrays, uninterpreted, full);
     show::check(pedr::refusal_number(answer), row / cases::DUE);
 }
 

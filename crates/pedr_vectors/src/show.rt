@@ -59,3 +59,17 @@ pub(crate) fn digested(digest: u64, numbers: &[u64], shown: bool) -> u64 {
     }
     made
 }
+
+fn wide(n: u8) -> u64 {
+    n as u64
+}
+
+pub(crate) fn digest(bytes: &[u8]) -> u64 {
+    let mut made = 1;
+    let mut k = 0;
+    while k < bytes.len() {
+        made = digested(made, &[wide(bytes[k])], false);
+        k = k + 1;
+    }
+    made
+}

@@ -5,13 +5,12 @@ use mathlib.Core.List.{List, [], _∷_, _++_, map}
 use lib.ListN.{take, drop}
 use Rattle.layout.specs.Column.{holding, holdingAll, join}
 use Rattle.pedr_layout.specs.Layout as columns
-use Rattle.pedr_flags.specs.Class.{classNumber}
 use Rattle.pedr_flags.specs.Quality.{goodCount}
 use Rattle.pedr_flags_writer.specs.Quality.{qualityBits}
 use Rattle.pedr_flags_writer.specs.Descriptor.{descriptorOctets}
 use Rattle.pedr_flags_writer.specs.Encoder.{encoderByte}
 use Rattle.pedr_flags.specs.declared.Encoder.{Encoder}
-use Rattle.pedr_arrays.specs.declared.ShotClass.{ShotClass}
+use Rattle.pedr_arrays.specs.Arrays.{shotClassNumber}
 use Rattle.pedr_arrays.specs.declared.ShotArrays.{ShotArrays}
 use Rattle.pedr_arrays.specs.declared.ChannelArrays.{ChannelArrays}
 use Rattle.pedr_arrays.specs.declared.RecordArrays.{RecordArrays}
@@ -51,10 +50,6 @@ pulseParts s =
     ∷ holdingAll columns.pulseWidth (s .«pulse_width»)
     ∷ holdingAll columns.opticalWidth (s .«optical_width»)
     ∷ []
-
--- the number of a shot's class
-abbrev pub shotClassNumber : ShotClass → ℕ
-shotClassNumber c = classNumber (c .class)
 
 -- bytes 325 to 424
 abbrev pub groundParts : RecordFields → RecordArrays → List (List ℕ)

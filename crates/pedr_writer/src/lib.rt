@@ -29,6 +29,7 @@ ghost use lib.ListN.{length};
 ghost use Rattle.octets.specs.Bytes.{complemented, put};
 ghost use Rattle.octets.specs.Table.{octetsOfAll};
 ghost use Rattle.layout.specs.Column.{join};
+ghost use Rattle.pedr_arrays.specs.Arrays.{shotClassNumber};
 ghost use Rattle.pedr_flags_writer.specs.Encoder.{encoderByte};
 ghost use Rattle.pedr_writer.specs.Parts as parts;
 ghost use Rattle.pedr_writer.specs.Write.{writtenSaid, writeDue, writeBytes};
@@ -114,7 +115,7 @@ fn put_pulses(shots: ShotArrays, out: &mut [u8])
 
 // The numbers of 20 classes.
 pub fn class_numbers(classes: [ShotClass; SHOTS]) -> [u16; SHOTS]
-    ensures { λ r. ⌜ r ≡ map parts.shotClassNumber classes ⌝ }
+    ensures { λ r. ⌜ r ≡ map shotClassNumber classes ⌝ }
 {
     let mut numbers = [0u16; SHOTS];
     let mut k = 0;

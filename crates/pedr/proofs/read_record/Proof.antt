@@ -20,6 +20,12 @@ returns c =
       after-refused _ _ (uninterpretedOf s) noUninterpreted e n,
     )
 
+read-fields-requires : tie.Need-read-fields-requires
+read-fields-requires c κs = search needs
+
+read-arrays-requires : tie.Need-read-arrays-requires
+read-arrays-requires c κs = search needs
+
 returns-2 : tie.Need-returns-2
 returns-2 c =
     let e = c .before .before .before in
@@ -37,7 +43,7 @@ read-record-spec =
     (λ c κs. search needs)
     (λ c κs. search needs)
     returns
-    (λ c κs. search needs)
-    (λ c κs. search needs)
+    read-fields-requires
+    read-arrays-requires
     (λ c κs. search needs)
     returns-2)

@@ -1,9 +1,9 @@
 -- Array by array, as read; the classes by their column.
 use mathlib.Core.Path.{sym, ap, _∙_}
 use mathlib.Core.List.{map}
-use Rattle.pedr_arrays.specs.Arrays.{shotArraysOf, arraysOf}
+use Rattle.pedr_arrays.specs.Arrays.{shotClassNumber, shotArraysOf, arraysOf}
 use Rattle.pedr_arrays.specs.declared.RecordArrays.{RecordArrays}
-use Rattle.pedr_c.specs.Numbers.{shotClassNumber, arrayNumbers}
+use Rattle.pedr_c.specs.Numbers.{arrayNumbers}
 use borrow.Author.Needs.{needs}
 use Rattle.pedr_c.proofs.read_arrays.Statement.{statement}
 use Rattle.pedr_c.proofs.read_arrays.Tie as tie

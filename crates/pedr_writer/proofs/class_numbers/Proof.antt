@@ -6,7 +6,7 @@ use lib.ListN.{length, getD}
 use Rattle.octets.specs.Table.{table}
 use Rattle.octets.proofs.Fill.{Filled, fill-more, fill-done, table-map}
 use Rattle.pedr_arrays.specs.Arrays.{shotClass}
-use Rattle.pedr_writer.specs.Parts.{shotClassNumber}
+use Rattle.pedr_arrays.specs.Arrays.{shotClassNumber}
 use borrow.Author.Needs.{needs}
 use Rattle.pedr_writer.proofs.class_numbers.Statement.{statement}
 use Rattle.pedr_writer.proofs.class_numbers.Tie as tie
