@@ -1,5 +1,5 @@
-//! The PEDR record of document 01, read, and written as document 02's request 1 has it. The columns are those of document 001, the encoder bytes those of document 000; a test holds
-//! them against document 01's list.
+//! The PEDR record of document 01, read, and written as document 02's request 1 has it. The columns are those of document 001, the encoder bytes
+//! those of document 000; a test holds them against document 01's list.
 
 use super::{Refusal, RECORD};
 use std::marker::PhantomData;
