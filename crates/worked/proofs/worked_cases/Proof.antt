@@ -14,7 +14,7 @@ use Rattle.packet_writer.specs.Write.{histogramOf, unsummed, packetOf}
 use Rattle.numbers.specs.Bit.{bitsSet}
 use Rattle.pedr_flags.specs.Quality.{qualityOf}
 use Rattle.pedr_fields.specs.Fields.{timeOf}
-use Rattle.pedr_check.specs.Refusal.{recordRefusal}
+use Rattle.pedr_check.specs.Refusal.{recordRefusal, valuesRefusal}
 use Rattle.position.specs.Position.{position}
 use Rattle.window.specs.Window.{heldAt, someAmong, someHeld}
 use Rattle.reorder_session.specs.Session.{pastEnd, broken}
@@ -26,7 +26,7 @@ use Rattle.worked.proofs.worked_cases.Statement.{statement}
 use Rattle.worked.proofs.worked_cases.Tie as tie
 
 returns : tie.Need-returns
-unfolding put refuse_unless_else_ _then_ wordSum zeroed packetSum firstBin headerRefusal readRefusal histogramOf unsummed packetOf fieldsOf counted timedPacket zeroPacket zeroRecord qualityRecord timeRecord bitsSet qualityOf timeOf recordRefusal say position heldAt someAmong someHeld pastEnd broken refusing positionRefusal admitted Offer-rules.offerRefusal Offer-rules.offerDue Turn-rules.turn Serve-rules.serveRefusal
+unfolding put refuse_unless_else_ _then_ wordSum zeroed packetSum firstBin headerRefusal readRefusal histogramOf unsummed packetOf fieldsOf counted timedPacket zeroPacket zeroRecord qualityRecord timeRecord bitsSet qualityOf timeOf recordRefusal valuesRefusal say position heldAt someAmong someHeld pastEnd broken refusing positionRefusal admitted Offer-rules.offerRefusal Offer-rules.offerDue Turn-rules.turn Serve-rules.serveRefusal
 returns c =
     record {
       sum-of-count-0 = refl;
