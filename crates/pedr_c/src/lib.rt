@@ -3,9 +3,17 @@ use pedr_arrays::ChannelArrays;
 use pedr_arrays::RecordArrays;
 use pedr_arrays::ShotArrays;
 use pedr_arrays::ShotClass;
+use pedr_fields::FrameTime;
+use pedr_fields::OrbitPosition;
+use pedr_fields::PacketLink;
+use pedr_fields::Pointing;
+use pedr_fields::Ranges;
+use pedr_fields::Receiver;
 use pedr_fields::RecordFields;
 use pedr_flags::Class;
+use pedr_flags::Descriptor;
 use pedr_flags::Encoder;
+use pedr_flags::Quality;
 use pedr_flags::ShotFailures;
 use pedr_layout::CLASS_AT;
 use pedr_layout::SHOTS;
@@ -17,7 +25,7 @@ ghost use mathlib.Core.List.{map};
 ghost use Rattle.pedr_arrays.specs.Arrays.{shotClass, classesOf, arraysOf, shotClassNumber};
 ghost use Rattle.pedr.specs.Read.{readDue, readArrays, readUninterpreted};
 ghost use Rattle.pedr_shot.specs.Shot.{shotDue};
-ghost use Rattle.pedr_c.specs.Refused.{noFields, noNumbers, refusedRecord, noShot};
+ghost use Rattle.pedr_c.specs.Refused.{noPosition, noDescriptor, noReceiver, noFields, noNumbers, refusedRecord, noShot};
 ghost use Rattle.pedr_c.specs.Numbers.{shotNumbers, arrayNumbers, recordNumbers, oneShot, shotRead};
 ghost use Rattle.pedr_c.specs.Back.{shotsOfNumbers, arraysOfNumbers};
 
@@ -130,12 +138,78 @@ fn read_arrays(bytes: &[u8]) -> ArrayNumbers
     }
 }
 
-// Fields of zeros: those of no bytes.
+fn no_position() -> OrbitPosition
+    ensures { λ r. ⌜ r ≡ noPosition ⌝ }
+{
+    OrbitPosition {
+        orbit: 0,
+        latitude: 0,
+        longitude: 0,
+        radial_distance: 0,
+        ground_latitude: 0,
+        ground_longitude: 0,
+    }
+}
+
+fn no_descriptor() -> Descriptor
+    ensures { λ r. ⌜ r ≡ noDescriptor ⌝ }
+{
+    Descriptor {
+        packet_sum: false,
+        software_sum: false,
+        mode: false,
+        ots: false,
+        carried: 0,
+    }
+}
+
+fn no_receiver() -> Receiver
+    ensures { λ r. ⌜ r ≡ noReceiver ⌝ }
+{
+    Receiver {
+        channel_mask: 0,
+        minimum_hits: 0,
+        hit_count: 0,
+        frame_counter: 0,
+        trigger: 0,
+        frame_index: 0,
+    }
+}
+
+// Written out: as the fields read of no bytes they would have the compiler call the reading of fields, not inline it in the read of a record.
 fn no_fields() -> RecordFields
     ensures { λ r. ⌜ r ≡ noFields ⌝ }
 {
-    let none = [0u8; 1];
-    pedr_fields::read_fields(&none)
+    RecordFields {
+        time: FrameTime {
+            whole: 0,
+            micros: 0,
+        },
+        position: no_position(),
+        quality: Quality {
+            good: 0,
+            carried: 0,
+            counter: 0,
+        },
+        descriptor: no_descriptor(),
+        pointing: Pointing {
+            right_ascension: 0,
+            declination: 0,
+            twist: 0,
+        },
+        ranges: Ranges {
+            mid_point_range: 0,
+            frame_radius: 0,
+            delay: 0,
+            width: 0,
+        },
+        receiver: no_receiver(),
+        link: PacketLink {
+            seconds: 0,
+            millis: 0,
+            fine_time: 0,
+        },
+    }
 }
 
 fn no_arrays() -> ArrayNumbers
