@@ -42,8 +42,8 @@ use Rattle.pedr_write_check.specs.Refusal.{isProper, isProperShot, hasTwoBits, 
 use Rattle.pedr_write_check.proofs.Accept.{Proper, writable}
 use Rattle.pedr.specs.Read.{readDue, readArrays, readUninterpreted}
 use Rattle.pedr_arrays.specs.Arrays.{shotClassNumber}
-use Rattle.pedr_writer.specs.Parts.{recordParts, recordOf}
-use Rattle.pedr_writer.proofs.Fits.{Sizes, record-fits}
+use Rattle.pedr_segments.specs.Parts.{recordParts, recordOf}
+use Rattle.pedr_segments.proofs.Fits.{Sizes, record-fits}
 use Rattle.pedr_writer.proofs.Whole.{record-length}
 use Rattle.pedr_round_trip.specs.Typed.{TypedFields, TypedArrays}
 use Rattle.pedr_round_trip.specs.RoundTrip.{counted, ReadsBack}

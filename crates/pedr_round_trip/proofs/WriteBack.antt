@@ -37,7 +37,7 @@ use Rattle.pedr_check.specs.Refusal.{valuesRefusal, recordRefusal}
 use Rattle.pedr_write_check.specs.Refusal.{isProper, isProperShot, hasTwoBits, writeRefusal}
 use Rattle.pedr_write_check.proofs.Accept.{Proper, room-decides}
 use Rattle.pedr_arrays.specs.Arrays.{shotClassNumber}
-use Rattle.pedr_writer.specs.Parts.{recordParts, recordOf}
+use Rattle.pedr_segments.specs.Parts.{recordParts, recordOf}
 use Rattle.pedr_round_trip.specs.RoundTrip.{WritesBack, copyRefusal}
 
 -- what an accepted record meets

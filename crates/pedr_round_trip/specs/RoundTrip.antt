@@ -15,7 +15,7 @@ use Rattle.pedr_arrays.specs.declared.RecordArrays.{RecordArrays}
 use Rattle.pedr_fields.specs.declared.RecordFields.{RecordFields}
 use Rattle.pedr_check.specs.Refusal.{recordRefusal}
 use Rattle.pedr_write_check.specs.Refusal.{writeRefusal}
-use Rattle.pedr_writer.specs.Parts.{recordOf}
+use Rattle.pedr_segments.specs.Parts.{recordOf}
 use Rattle.pedr.specs.Read.{readDue, readArrays, readUninterpreted}
 use Rattle.pedr_round_trip.specs.Typed.{TypedFields, TypedArrays}
 

@@ -1,3 +1,1 @@
-pub mod Stores
-pub mod Fits
 pub mod Whole

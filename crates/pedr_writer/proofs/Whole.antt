@@ -12,8 +12,8 @@ use Rattle.layout.proofs.Store.{Puts, puts-join}
 use Rattle.pedr_layout.specs.Layout.{recordColumns}
 use Rattle.pedr_arrays.specs.declared.RecordArrays.{RecordArrays}
 use Rattle.pedr_fields.specs.declared.RecordFields.{RecordFields}
-use Rattle.pedr_writer.specs.Parts.{headParts, frameParts, pulseParts, groundParts, gateParts, receiverParts, linkParts, tailParts, recordParts, recordOf}
-use Rattle.pedr_writer.proofs.Fits.{Sizes, headColumns, frameColumns, pulseColumns, groundColumns, gateColumns, receiverColumns, linkColumns, tailColumns, head-fits, frame-fits, pulse-fits, ground-fits, gate-fits, receiver-fits, link-fits, tail-fits, record-fits}
+use Rattle.pedr_segments.specs.Parts.{headParts, frameParts, pulseParts, groundParts, gateParts, receiverParts, linkParts, tailParts, recordParts, recordOf}
+use Rattle.pedr_segments.proofs.Fits.{Sizes, headColumns, frameColumns, pulseColumns, groundColumns, gateColumns, receiverColumns, linkColumns, tailColumns, head-fits, frame-fits, pulse-fits, ground-fits, gate-fits, receiver-fits, link-fits, tail-fits, record-fits}
 
 abbrev pub sections : RecordFields → RecordArrays → List ℕ → List (List ℕ)
 sections f a x =

@@ -5,7 +5,7 @@ use Rattle.octets.specs.Refusal.{Said, refused, answered, say, after}
 use Rattle.pedr_arrays.specs.declared.RecordArrays.{RecordArrays}
 use Rattle.pedr_fields.specs.declared.RecordFields.{RecordFields}
 use Rattle.pedr_write_check.specs.Refusal.{writeRefusal}
-use Rattle.pedr_writer.specs.Parts.{recordOf}
+use Rattle.pedr_segments.specs.Parts.{recordOf}
 use Rattle.pedr_writer.specs.declared.RecordWritten.{RecordWritten}
 use Rattle.pedr_writer.specs.declared.RecordWritten.the-variants.{Refused, Written}
 

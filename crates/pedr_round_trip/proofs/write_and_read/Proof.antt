@@ -7,7 +7,7 @@ use Rattle.octets.proofs.Ladder.{say-refused, say-answered, after-refused, afte
 use Rattle.pedr_arrays.specs.Arrays.{noArrays}
 use Rattle.pedr_arrays.specs.Uninterpreted.{noUninterpreted}
 use Rattle.pedr.specs.Read.{readDue, readArrays, readUninterpreted}
-use Rattle.pedr_writer.specs.Parts.{recordOf}
+use Rattle.pedr_segments.specs.Parts.{recordOf}
 use Rattle.pedr_writer.specs.Write.{writtenSaid}
 use Rattle.pedr_round_trip.specs.RoundTrip.{counted}
 use Rattle.pedr_round_trip.proofs.ReadBack.{read-back}

@@ -4,8 +4,8 @@ use denote.Ref.{now}
 use lib.ListN.{length, length-map}
 use Rattle.octets.proofs.Store.{put-length}
 use Rattle.layout.proofs.Store.{Puts, stop, _▸_}
-use Rattle.pedr_writer.specs.Parts.{recordOf}
-use Rattle.pedr_writer.proofs.Fits.{Sizes}
+use Rattle.pedr_segments.specs.Parts.{recordOf}
+use Rattle.pedr_segments.proofs.Fits.{Sizes}
 use Rattle.pedr_writer.proofs.Whole.{whole, record-length}
 use borrow.Author.Needs.{needs}
 use Rattle.pedr_writer.proofs.put_record.Statement.{statement}

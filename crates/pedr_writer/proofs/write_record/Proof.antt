@@ -4,7 +4,7 @@ use denote.Ref.{now}
 use lib.ListN.{length}
 use Rattle.octets.proofs.Ladder.{say-refused, say-answered, after-refused, after-done}
 use Rattle.pedr_write_check.proofs.Accept.{Proper, writable}
-use Rattle.pedr_writer.specs.Parts.{recordOf}
+use Rattle.pedr_segments.specs.Parts.{recordOf}
 use borrow.Author.Needs.{needs}
 use Rattle.pedr_writer.proofs.write_record.Statement.{statement}
 use Rattle.pedr_writer.proofs.write_record.Tie as tie

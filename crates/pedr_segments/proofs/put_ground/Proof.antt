@@ -5,13 +5,13 @@ use lib.ListN.{length, length-map}
 use mir.Syntax.{w32}
 use mir.Val.{SFits}
 use Rattle.octets.proofs.Store.{put-length}
-use Rattle.pedr_writer.specs.Parts.{groundParts}
-use Rattle.pedr_writer.proofs.Fits.{groundColumns, ground-fits}
-use Rattle.pedr_writer.proofs.Stores.{signed-stored, pair-stored, run-stored}
+use Rattle.pedr_segments.specs.Parts.{groundParts}
+use Rattle.pedr_segments.proofs.Fits.{groundColumns, ground-fits}
+use Rattle.pedr_segments.proofs.Stores.{signed-stored, pair-stored, run-stored}
 use Rattle.layout.proofs.Store.{Puts, stop, _▸_, puts-join}
 use borrow.Author.Needs.{needs}
-use Rattle.pedr_writer.proofs.put_ground.Statement.{statement}
-use Rattle.pedr_writer.proofs.put_ground.Tie as tie
+use Rattle.pedr_segments.proofs.put_ground.Statement.{statement}
+use Rattle.pedr_segments.proofs.put_ground.Tie as tie
 
 -- the signed fields and the arrays' lengths, by their types
 fit : (s : tie.Start) → SFits w32 (s .args .fields .position .«ground_latitude») × SFits w32 (s .args .fields .position .«ground_longitude»)

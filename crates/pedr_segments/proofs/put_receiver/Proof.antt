@@ -2,12 +2,12 @@
 use mathlib.Core.Path.{_≡_, refl, sym, ap, _∙_}
 use denote.Ref.{now}
 use lib.ListN.{length}
-use Rattle.pedr_writer.specs.Parts.{receiverParts}
-use Rattle.pedr_writer.proofs.Fits.{receiverColumns, receiver-fits}
+use Rattle.pedr_segments.specs.Parts.{receiverParts}
+use Rattle.pedr_segments.proofs.Fits.{receiverColumns, receiver-fits}
 use Rattle.layout.proofs.Store.{Puts, stop, _▸_, puts-join}
 use borrow.Author.Needs.{needs}
-use Rattle.pedr_writer.proofs.put_receiver.Statement.{statement}
-use Rattle.pedr_writer.proofs.put_receiver.Tie as tie
+use Rattle.pedr_segments.proofs.put_receiver.Statement.{statement}
+use Rattle.pedr_segments.proofs.put_receiver.Tie as tie
 
 returns : tie.Need-returns
 returns c =

@@ -5,13 +5,13 @@ use lib.ListN.{length}
 use mir.Syntax.{w32}
 use mir.Val.{SFits}
 use Rattle.octets.proofs.Store.{put-length}
-use Rattle.pedr_writer.specs.Parts.{frameParts}
-use Rattle.pedr_writer.proofs.Fits.{frameColumns, frame-fits}
-use Rattle.pedr_writer.proofs.Stores.{signed-stored, descriptor-stored}
+use Rattle.pedr_segments.specs.Parts.{frameParts}
+use Rattle.pedr_segments.proofs.Fits.{frameColumns, frame-fits}
+use Rattle.pedr_segments.proofs.Stores.{signed-stored, descriptor-stored}
 use Rattle.layout.proofs.Store.{Puts, stop, _▸_, puts-join}
 use borrow.Author.Needs.{needs}
-use Rattle.pedr_writer.proofs.put_frame.Statement.{statement}
-use Rattle.pedr_writer.proofs.put_frame.Tie as tie
+use Rattle.pedr_segments.proofs.put_frame.Statement.{statement}
+use Rattle.pedr_segments.proofs.put_frame.Tie as tie
 
 -- the signed fields and the array's length, by their types
 fit : (s : tie.Start) → SFits w32 (s .args .fields .pointing .«right_ascension») × SFits w32 (s .args .fields .pointing .declination)

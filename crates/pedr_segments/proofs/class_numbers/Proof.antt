@@ -8,8 +8,8 @@ use Rattle.octets.proofs.Fill.{Filled, fill-more, fill-done, table-map}
 use Rattle.pedr_arrays.specs.Arrays.{shotClass}
 use Rattle.pedr_arrays.specs.Arrays.{shotClassNumber}
 use borrow.Author.Needs.{needs}
-use Rattle.pedr_writer.proofs.class_numbers.Statement.{statement}
-use Rattle.pedr_writer.proofs.class_numbers.Tie as tie
+use Rattle.pedr_segments.proofs.class_numbers.Statement.{statement}
+use Rattle.pedr_segments.proofs.class_numbers.Tie as tie
 
 abbrev Inv-loop : tie.InvT-loop
 Inv-loop classes numbers₀ k₀ numbers k = Filled (λ j. shotClassNumber (getD classes j (shotClass 0))) numbers₀ numbers k

@@ -5,13 +5,13 @@ use lib.ListN.{length}
 use mir.Syntax.{w32}
 use mir.Val.{SFits}
 use Rattle.octets.proofs.Store.{put-length}
-use Rattle.pedr_writer.specs.Parts.{headParts}
-use Rattle.pedr_writer.proofs.Fits.{headColumns, head-fits}
-use Rattle.pedr_writer.proofs.Stores.{signed-stored, quality-stored}
+use Rattle.pedr_segments.specs.Parts.{headParts}
+use Rattle.pedr_segments.proofs.Fits.{headColumns, head-fits}
+use Rattle.pedr_segments.proofs.Stores.{signed-stored, quality-stored}
 use Rattle.layout.proofs.Store.{Puts, stop, _▸_, puts-join}
 use borrow.Author.Needs.{needs}
-use Rattle.pedr_writer.proofs.put_head.Statement.{statement}
-use Rattle.pedr_writer.proofs.put_head.Tie as tie
+use Rattle.pedr_segments.proofs.put_head.Statement.{statement}
+use Rattle.pedr_segments.proofs.put_head.Tie as tie
 
 -- the signed fields, by their types
 fit : (s : tie.Start) → SFits w32 (s .args .fields .time .whole) × SFits w32 (s .args .fields .time .micros)

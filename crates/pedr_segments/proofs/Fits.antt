@@ -21,7 +21,7 @@ use Rattle.pedr_arrays.specs.declared.ChannelArrays.{ChannelArrays}
 use Rattle.pedr_arrays.specs.declared.RecordArrays.{RecordArrays}
 use Rattle.pedr_fields.specs.declared.RecordFields.{RecordFields}
 use Rattle.pedr_arrays.specs.Arrays.{shotClassNumber}
-use Rattle.pedr_writer.specs.Parts.{headParts, frameParts, pulseParts, groundParts, gateParts, receiverParts, linkParts, tailParts, recordParts}
+use Rattle.pedr_segments.specs.Parts.{headParts, frameParts, pulseParts, groundParts, gateParts, receiverParts, linkParts, tailParts, recordParts}
 
 -- the columns of each segment
 abbrev pub headColumns : List Column

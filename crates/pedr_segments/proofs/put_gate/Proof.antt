@@ -3,12 +3,12 @@ use mathlib.Core.Path.{_≡_, refl, sym, ap, _∙_}
 use denote.Ref.{now}
 use lib.ListN.{length}
 use Rattle.pedr_arrays.specs.declared.ChannelArrays.{ChannelArrays}
-use Rattle.pedr_writer.specs.Parts.{gateParts}
-use Rattle.pedr_writer.proofs.Fits.{gateColumns, gate-fits}
+use Rattle.pedr_segments.specs.Parts.{gateParts}
+use Rattle.pedr_segments.proofs.Fits.{gateColumns, gate-fits}
 use Rattle.layout.proofs.Store.{Puts, stop, _▸_, puts-join}
 use borrow.Author.Needs.{needs}
-use Rattle.pedr_writer.proofs.put_gate.Statement.{statement}
-use Rattle.pedr_writer.proofs.put_gate.Tie as tie
+use Rattle.pedr_segments.proofs.put_gate.Statement.{statement}
+use Rattle.pedr_segments.proofs.put_gate.Tie as tie
 
 -- the arrays' lengths, by their types
 lengths : (s : tie.Start) → (length (s .args .t2) ≡ 8) × (length (s .args .t3) ≡ 8)

@@ -2,12 +2,12 @@
 use mathlib.Core.Path.{_≡_, refl, sym, ap, _∙_}
 use denote.Ref.{now}
 use lib.ListN.{length}
-use Rattle.pedr_writer.specs.Parts.{pulseParts}
-use Rattle.pedr_writer.proofs.Fits.{pulseColumns, pulse-fits}
+use Rattle.pedr_segments.specs.Parts.{pulseParts}
+use Rattle.pedr_segments.proofs.Fits.{pulseColumns, pulse-fits}
 use Rattle.layout.proofs.Store.{Puts, stop, _▸_, puts-join}
 use borrow.Author.Needs.{needs}
-use Rattle.pedr_writer.proofs.put_pulses.Statement.{statement}
-use Rattle.pedr_writer.proofs.put_pulses.Tie as tie
+use Rattle.pedr_segments.proofs.put_pulses.Statement.{statement}
+use Rattle.pedr_segments.proofs.put_pulses.Tie as tie
 
 -- the arrays' lengths, by their types
 lengths : (s : tie.Start) → let a = s .args .shots in (length (a .energy) ≡ 20) × (length (a .reflectivity) ≡ 20) × (length (a .«trigger_channel») ≡ 20)

@@ -4,13 +4,13 @@ use denote.Ref.{now}
 use lib.ListN.{length}
 use mir.Syntax.{w16, w32}
 use mir.Val.{SFits}
-use Rattle.pedr_writer.specs.Parts.{linkParts}
-use Rattle.pedr_writer.proofs.Fits.{linkColumns, link-fits}
-use Rattle.pedr_writer.proofs.Stores.{signed-stored}
+use Rattle.pedr_segments.specs.Parts.{linkParts}
+use Rattle.pedr_segments.proofs.Fits.{linkColumns, link-fits}
+use Rattle.pedr_segments.proofs.Stores.{signed-stored}
 use Rattle.layout.proofs.Store.{Puts, stop, _▸_, puts-join}
 use borrow.Author.Needs.{needs}
-use Rattle.pedr_writer.proofs.put_link.Statement.{statement}
-use Rattle.pedr_writer.proofs.put_link.Tie as tie
+use Rattle.pedr_segments.proofs.put_link.Statement.{statement}
+use Rattle.pedr_segments.proofs.put_link.Tie as tie
 
 -- the signed fields and the array's length, by their types
 fit : (s : tie.Start) → SFits w32 (s .args .fields .link .seconds) × SFits w16 (s .args .fields .link .millis)

@@ -9,8 +9,8 @@ use Rattle.octets.specs.Bytes.{complemented}
 use borrow.Author.Needs.{needs}
 use mir.Syntax.{w32}
 use mir.ValLaws.{toZ-ofZ}
-use Rattle.pedr_writer.proofs.xyz_bits.Statement.{statement}
-use Rattle.pedr_writer.proofs.xyz_bits.Tie as tie
+use Rattle.pedr_segments.proofs.xyz_bits.Statement.{statement}
+use Rattle.pedr_segments.proofs.xyz_bits.Tie as tie
 
 three : (f : ℤ → ℕ) (xs : List ℤ) (a b c : ℕ) → length xs ≡ 3 → a ≡ f (getD xs 0 (pos 0)) → b ≡ f (getD xs 1 (pos 0)) → c ≡ f (getD xs 2 (pos 0))
     → a ∷ b ∷ c ∷ [] ≡ map f xs

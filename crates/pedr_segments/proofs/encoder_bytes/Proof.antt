@@ -8,8 +8,8 @@ use Rattle.octets.proofs.Fill.{Filled, fill-more, fill-done, table-map}
 use Rattle.pedr_flags.specs.Encoder.{encoderOf}
 use Rattle.pedr_flags_writer.specs.Encoder.{encoderByte}
 use borrow.Author.Needs.{needs}
-use Rattle.pedr_writer.proofs.encoder_bytes.Statement.{statement}
-use Rattle.pedr_writer.proofs.encoder_bytes.Tie as tie
+use Rattle.pedr_segments.proofs.encoder_bytes.Statement.{statement}
+use Rattle.pedr_segments.proofs.encoder_bytes.Tie as tie
 
 abbrev Inv-loop : tie.InvT-loop
 Inv-loop encoders bytes₀ k₀ bytes k = Filled (λ j. encoderByte (getD encoders j (encoderOf 0))) bytes₀ bytes k
