@@ -8,8 +8,8 @@ use packet_layout::TEMPERATURES;
 use packet_writer::PacketWritten;
 use pedr_c::ArrayNumbers;
 use pedr_c::RecordNumbers;
-use pedr_c::ShotRead;
 use pedr_fields::RecordFields;
+use pedr_shot_c::ShotRead;
 use pedr_writer::RecordWritten;
 use reorder_c_answers::Answer;
 use reorder_c_answers::Count;
@@ -24,8 +24,9 @@ ghost use Rattle.packet_writer.specs.Write.{writeRefusal, writeBytes};
 ghost use Rattle.pedr_check.specs.Refusal.{recordRefusal};
 ghost use Rattle.pedr.specs.Read as pedr;
 ghost use Rattle.pedr_shot.specs.Shot.{shotDue};
-ghost use Rattle.pedr_c.specs.Numbers.{recordNumbers, shotRead};
+ghost use Rattle.pedr_c.specs.Numbers.{recordNumbers};
 ghost use Rattle.pedr_c.specs.Back.{arraysOfNumbers};
+ghost use Rattle.pedr_shot_c.specs.Shot.{shotRead};
 ghost use Rattle.pedr_write_check.specs.Refusal as pedr_write_check;
 ghost use Rattle.pedr_writer.specs.Write as pedr_writer;
 ghost use Rattle.reorder_c.specs.Calls.{OpensAs, OffersAs, ServesAs, DrainsAs, PassesAs};
@@ -166,7 +167,7 @@ pub extern "C" fn mola_read_record(bytes: &[u8]) -> RecordNumbers
 pub extern "C" fn mola_read_shot(bytes: &[u8], shot: usize) -> ShotRead
     ensures { λ r. ⌜ r ≡ shotRead (shotDue (now (bytes .entry)) shot) ⌝ }
 {
-    pedr_c::read_shot(bytes, shot)
+    pedr_shot_c::read_shot(bytes, shot)
 }
 
 // Writes a record of these fields, arrays (a class by its number) and uninterpreted bytes into out: the refusal number, or 0. A refusal leaves out as it was.

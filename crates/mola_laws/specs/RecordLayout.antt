@@ -15,8 +15,8 @@ use Rattle.pedr_arrays.specs.declared.ChannelArrays.{ChannelArrays}
 use Rattle.pedr_c.specs.declared.ShotNumbers.{ShotNumbers}
 use Rattle.pedr_c.specs.declared.ArrayNumbers.{ArrayNumbers}
 use Rattle.pedr_c.specs.declared.RecordNumbers.{RecordNumbers}
-use Rattle.pedr_c.specs.declared.OneShot.{OneShot}
-use Rattle.pedr_c.specs.declared.ShotRead.{ShotRead}
+use Rattle.pedr_shot_c.specs.declared.OneShot.{OneShot}
+use Rattle.pedr_shot_c.specs.declared.ShotRead.{ShotRead}
 use Rattle.pedr_flags.proofs.Quality.Laws as In-quality
 use Rattle.pedr_flags.proofs.Descriptor.Laws as In-descriptor
 use Rattle.pedr_flags.proofs.Encoder.Laws as In-encoder
@@ -32,8 +32,8 @@ use Rattle.pedr_arrays.proofs.ChannelArrays.Laws as In-channels
 use Rattle.pedr_c.proofs.ShotNumbers.Laws as In-shots
 use Rattle.pedr_c.proofs.ArrayNumbers.Laws as In-arrays
 use Rattle.pedr_c.proofs.RecordNumbers.Laws as In-record
-use Rattle.pedr_c.proofs.OneShot.Laws as In-shot
-use Rattle.pedr_c.proofs.ShotRead.Laws as In-read
+use Rattle.pedr_shot_c.proofs.OneShot.Laws as In-shot
+use Rattle.pedr_shot_c.proofs.ShotRead.Laws as In-read
 use Rattle.mola_laws.specs.Laid.{Kind, u8, u16, u32, i16, i32, bool, _times_, _at_is_, Laid}
 
 -- ---- the fields

@@ -2,20 +2,14 @@
 use Prim.Native.Nat.{ℕ}
 use mathlib.Core.List.{List, map}
 use Rattle.octets.specs.Refusal.{Said, refused, answered, refusalIn}
-use Rattle.pedr_flags.specs.Class.{classNumber}
 use Rattle.pedr_arrays.specs.Arrays.{shotClassNumber}
 use Rattle.pedr_arrays.specs.declared.ShotArrays.{ShotArrays}
 use Rattle.pedr_arrays.specs.declared.RecordArrays.{RecordArrays}
 use Rattle.pedr_fields.specs.declared.RecordFields.{RecordFields}
-use Rattle.pedr_shot.specs.declared.ShotFields.{ShotFields}
-use Rattle.pedr_c.specs.Refused.{noFields, noShot}
+use Rattle.pedr_c.specs.Refused.{noFields}
 use Rattle.pedr_c.specs.declared.ShotNumbers.{ShotNumbers}
 use Rattle.pedr_c.specs.declared.ArrayNumbers.{ArrayNumbers}
 use Rattle.pedr_c.specs.declared.RecordNumbers.{RecordNumbers}
-use Rattle.pedr_c.specs.declared.OneShot.{OneShot}
-use Rattle.pedr_c.specs.declared.ShotRead.{ShotRead}
-
--- ---- a record
 
 unfoldable pub shotNumbers : ShotArrays → ShotNumbers
 shotNumbers a =
@@ -48,26 +42,3 @@ fieldsIn (answered f) = f
 -- what is said of a record, with its arrays and uninterpreted bytes
 abbrev pub recordNumbers : Said RecordFields → RecordArrays → List ℕ → RecordNumbers
 recordNumbers said a u = record { refusal = refusalIn said; fields = fieldsIn said; arrays = arrayNumbers a; uninterpreted = u }
-
--- ---- one shot
-
-abbrev pub oneShot : ShotFields → OneShot
-oneShot f =
-    record {
-      radius = f .radius;
-      energy = f .energy;
-      reflectivity = f .reflectivity;
-      «trigger_channel» = f .«trigger_channel»;
-      «pulse_width» = f .«pulse_width»;
-      «optical_width» = f .«optical_width»;
-      «laser_power» = f .«laser_power»;
-      «class_number» = classNumber (f .class);
-      encoder = f .encoder;
-      good = f .good;
-      failures = f .failures;
-    }
-
--- what is said of a shot
-abbrev pub shotRead : Said ShotFields → ShotRead
-shotRead (refused n) = record { refusal = n; shot = noShot }
-shotRead (answered f) = record { refusal = 0; shot = oneShot f }

@@ -13,7 +13,6 @@ use Rattle.pedr_fields.specs.declared.Receiver.{Receiver}
 use Rattle.pedr_fields.specs.declared.RecordFields.{RecordFields}
 use Rattle.pedr_c.specs.declared.ArrayNumbers.{ArrayNumbers}
 use Rattle.pedr_c.specs.declared.RecordNumbers.{RecordNumbers}
-use Rattle.pedr_c.specs.declared.OneShot.{OneShot}
 
 abbrev pub noPosition : OrbitPosition
 noPosition =
@@ -68,19 +67,3 @@ noNumbers =
 
 unfoldable pub refusedRecord : ℕ → RecordNumbers
 refusedRecord n = record { refusal = n; fields = noFields; arrays = noNumbers; uninterpreted = replicate uninterpretedCount 0 }
-
-abbrev pub noShot : OneShot
-noShot =
-    record {
-      radius = 0;
-      energy = 0;
-      reflectivity = 0;
-      «trigger_channel» = 0;
-      «pulse_width» = 0;
-      «optical_width» = 0;
-      «laser_power» = 0;
-      «class_number» = 0;
-      encoder = encoderOf 0;
-      good = false;
-      failures = noFailures;
-    }

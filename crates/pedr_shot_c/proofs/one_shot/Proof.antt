@@ -1,7 +1,7 @@
 -- Field by field; the class by its number.
 use borrow.Author.Needs.{needs}
-use Rattle.pedr_c.proofs.one_shot.Statement.{statement}
-use Rattle.pedr_c.proofs.one_shot.Tie as tie
+use Rattle.pedr_shot_c.proofs.one_shot.Statement.{statement}
+use Rattle.pedr_shot_c.proofs.one_shot.Tie as tie
 
 returns : tie.Need-returns
 returns c =

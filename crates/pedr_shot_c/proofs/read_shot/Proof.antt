@@ -2,11 +2,11 @@
 use mathlib.Core.Path.{sym, ap, _∙_}
 use Rattle.pedr_shot.specs.declared.ShotAnswer.{ShotAnswer}
 use Rattle.pedr_shot.specs.Shot.{shotSaid}
-use Rattle.pedr_c.specs.declared.OneShot.{OneShot}
-use Rattle.pedr_c.specs.Numbers.{shotRead}
+use Rattle.pedr_shot_c.specs.declared.OneShot.{OneShot}
+use Rattle.pedr_shot_c.specs.Shot.{shotRead}
 use borrow.Author.Needs.{needs}
-use Rattle.pedr_c.proofs.read_shot.Statement.{statement}
-use Rattle.pedr_c.proofs.read_shot.Tie as tie
+use Rattle.pedr_shot_c.proofs.read_shot.Statement.{statement}
+use Rattle.pedr_shot_c.proofs.read_shot.Tie as tie
 
 returns : tie.Need-returns
 returns c =
