@@ -38,7 +38,8 @@ use Rattle.pedr_arrays.specs.declared.RecordArrays.{RecordArrays}
 use Rattle.pedr_fields.specs.Fields.{timeOf, positionOf, pointingOf, rangesOf, receiverOf, linkOf, fieldsOf}
 use Rattle.pedr_fields.specs.declared.RecordFields.{RecordFields}
 use Rattle.pedr_check.specs.Refusal.{valuesRefusal, recordRefusal}
-use Rattle.pedr_write_check.specs.Refusal.{isProper, isProperShot, hasTwoBits, writeRefusal}
+use Rattle.pedr_codes.specs.Codes.{isProper, isProperShot, hasTwoBits}
+use Rattle.pedr_write_check.specs.Refusal.{writeRefusal}
 use Rattle.pedr_write_check.proofs.Accept.{Proper, writable}
 use Rattle.pedr.specs.Read.{readDue, readArrays, readUninterpreted}
 use Rattle.pedr_arrays.specs.Arrays.{shotClassNumber}

@@ -34,7 +34,8 @@ use Rattle.pedr_arrays.specs.Arrays.{shotClass, classesOf, encodersOf, shotArra
 use Rattle.pedr_arrays.specs.Uninterpreted.{uninterpretedOf}
 use Rattle.pedr_fields.specs.Fields.{timeOf, positionOf, pointingOf, rangesOf, receiverOf, linkOf, fieldsOf}
 use Rattle.pedr_check.specs.Refusal.{valuesRefusal, recordRefusal}
-use Rattle.pedr_write_check.specs.Refusal.{isProper, isProperShot, hasTwoBits, writeRefusal}
+use Rattle.pedr_codes.specs.Codes.{isProper, isProperShot, hasTwoBits}
+use Rattle.pedr_write_check.specs.Refusal.{writeRefusal}
 use Rattle.pedr_write_check.proofs.Accept.{Proper, room-decides}
 use Rattle.pedr_arrays.specs.Arrays.{shotClassNumber}
 use Rattle.pedr_segments.specs.Parts.{recordParts, recordOf}

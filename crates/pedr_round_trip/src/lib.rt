@@ -64,7 +64,7 @@ fn type_fields(fields: RecordFields)
 fn type_classes(classes: [ShotClass; SHOTS])
     ensures { λ _. ⌜ HoldsAll unsigned 2 (map shotClassNumber classes) ⌝ }
 {
-    let _ = pedr_segments::class_numbers(classes);
+    let _ = pedr_codes::class_numbers(classes);
 }
 
 // Three signed numbers of 32 bits.

@@ -1,9 +1,7 @@
-// Segments of the 776-byte PEDR record, stored: its columns from byte 1 to byte 508, and the numbers of classes and encoder bits.
+// Segments of the 776-byte PEDR record, stored: its columns from byte 1 to byte 508.
 use pedr_arrays::RecordArrays;
 use pedr_arrays::ShotArrays;
-use pedr_arrays::ShotClass;
 use pedr_fields::RecordFields;
-use pedr_flags::Encoder;
 use pedr_layout::CLASS_AT;
 use pedr_layout::ENERGY_AT;
 use pedr_layout::FRAME_INDEX_AT;
@@ -22,8 +20,6 @@ ghost use mathlib.Core.List.{map};
 ghost use Rattle.octets.specs.Bytes.{complemented, put};
 ghost use Rattle.octets.specs.Table.{octetsOfAll};
 ghost use Rattle.layout.specs.Column.{join};
-ghost use Rattle.pedr_arrays.specs.Arrays.{shotClassNumber};
-ghost use Rattle.pedr_flags_writer.specs.Encoder.{encoderByte};
 ghost use Rattle.pedr_segments.specs.Parts as parts;
 
 // Columns of 20 items.
@@ -99,21 +95,6 @@ pub fn put_pulses(shots: ShotArrays, out: &mut [u8])
     put_u16x20(optical_width, OPTICAL_WIDTH_AT, out);
 }
 
-// The numbers of 20 classes.
-pub fn class_numbers(classes: [ShotClass; SHOTS]) -> [u16; SHOTS]
-    ensures { λ r. ⌜ r ≡ map shotClassNumber classes ⌝ }
-{
-    let mut numbers = [0u16; SHOTS];
-    let mut k = 0;
-    while k < SHOTS {
-        let shot = classes[k];
-        let class = shot.class;
-        numbers[k] = pedr_flags::class_number(class);
-        k = k + 1;
-    }
-    numbers
-}
-
 // The bits of three signed numbers.
 fn xyz_bits(xyz: [i32; 3]) -> [u32; 3]
     ensures { λ r. ⌜ r ≡ map (complemented 32) xyz ⌝ }
@@ -138,7 +119,7 @@ pub fn put_ground(fields: RecordFields, arrays: RecordArrays, out: &mut [u8])
     octets_writer::write_i32(position.ground_latitude, 336, out);
     octets_writer::write_i32(position.ground_longitude, 340, out);
     put_u16x20(laser_power, LASER_POWER_AT, out);
-    let numbers = class_numbers(classes);
+    let numbers = pedr_codes::class_numbers(classes);
     put_u16x20(numbers, CLASS_AT, out);
 }
 
@@ -175,18 +156,4 @@ pub fn put_link(fields: RecordFields, source_header: [u32; 2], out: &mut [u8])
     octets_writer::write_i32(link.seconds, 500, out);
     octets_writer::write_i16(link.millis, 504, out);
     octets_writer::write_u16(link.fine_time, 506, out);
-}
-
-// The bytes of 20 encoders' bits.
-pub fn encoder_bytes(encoders: [Encoder; SHOTS]) -> [u8; SHOTS]
-    ensures { λ r. ⌜ r ≡ map encoderByte encoders ⌝ }
-{
-    let mut bytes = [0u8; SHOTS];
-    let mut k = 0;
-    while k < SHOTS {
-        let encoder = encoders[k];
-        bytes[k] = pedr_flags_writer::encoder_byte(encoder);
-        k = k + 1;
-    }
-    bytes
 }

@@ -12,7 +12,8 @@ use Rattle.octets.proofs.Ladder.{passed, pass, pass-eq, pass-le, then-zero, the
 use Rattle.pedr_arrays.specs.declared.RecordArrays.{RecordArrays}
 use Rattle.pedr_fields.specs.declared.RecordFields.{RecordFields}
 use Rattle.pedr_check.specs.Refusal.{valuesRefusal}
-use Rattle.pedr_write_check.specs.Refusal.{isProperShot, hasTwoBits, writeRefusal}
+use Rattle.pedr_codes.specs.Codes.{isProperShot, hasTwoBits}
+use Rattle.pedr_write_check.specs.Refusal.{writeRefusal}
 
 -- the conditions that what is given meets where it is written, whatever the output
 pub record Proper (f : RecordFields) (a : RecordArrays) (x : List ℕ) : Type 0 where

@@ -1,33 +1,16 @@
 -- Request 1, "Precision records written", the refusals: 13 to 15 as they apply to the fields, then 40, 49 and 41.
 use Prim.Native.Nat.{ℕ, _-_, _^_}
-use mathlib.Core.Bool.{Bool, true, _&&_}
 use mathlib.Core.List.{List}
-use lib.Dec.{eqb, leb, ltb}
+use lib.Dec.{eqb, leb}
 use lib.ListN.{length}
 use Rattle.octets.specs.Refusal.{refuse_unless_else_, _then_}
 use Rattle.octets.specs.Table.{each}
 use Rattle.pedr_layout.specs.Layout as columns
-use Rattle.pedr_flags.specs.declared.Class.{Class}
-use Rattle.pedr_flags.specs.declared.Class.the-variants.{NoTrigger, ProbableGround, Unassigned}
-use Rattle.pedr_flags.specs.declared.Encoder.{Encoder}
-use Rattle.pedr_arrays.specs.declared.ShotClass.{ShotClass}
 use Rattle.pedr_arrays.specs.declared.RecordArrays.{RecordArrays}
 use Rattle.pedr_arrays.specs.Uninterpreted.{uninterpretedCount}
 use Rattle.pedr_fields.specs.declared.RecordFields.{RecordFields}
 use Rattle.pedr_check.specs.Refusal.{valuesRefusal}
-
--- unassigned is no name for the numbers 0 and 1, since those have names
-abbrev pub isProper : Class → Bool
-isProper NoTrigger = true
-isProper ProbableGround = true
-isProper (Unassigned n) = ltb 1 n
-
-abbrev pub isProperShot : ShotClass → Bool
-isProperShot c = isProper (c .class)
-
--- each part of an encoder byte has two bits
-abbrev pub hasTwoBits : Encoder → Bool
-hasTwoBits e = (ltb (e .start) (2 ^ 2) && ltb (e .«carried_low») (2 ^ 2)) && (ltb (e .stop) (2 ^ 2) && ltb (e .«carried_high») (2 ^ 2))
+use Rattle.pedr_codes.specs.Codes.{isProperShot, hasTwoBits}
 
 -- 13, 14, 15: µs part, latitude, frame index. 40: a class given as unassigned with number 0 or 1. 49: bits given over their width (good 20, quality's
 -- carried 4, descriptor's carried 24, encoder parts 2), or uninterpreted bytes not 248. 41: output not of 776 bytes

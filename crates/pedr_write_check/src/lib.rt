@@ -1,76 +1,10 @@
 // The refusals of a PEDR record to be written.
 use pedr_arrays::RecordArrays;
-use pedr_arrays::ShotClass;
 use pedr_fields::RecordFields;
-use pedr_flags::Class;
-use pedr_flags::Encoder;
 use pedr_layout::RECORD_SIZE;
-use pedr_layout::SHOTS;
 use pedr_layout::UNINTERPRETED;
 ghost use mathlib.Core.Path.{_≡_};
-ghost use Rattle.octets.specs.Table.{each};
-ghost use Rattle.pedr_write_check.specs.Together.{bytesHaveTwoBits};
-ghost use Rattle.pedr_write_check.specs.Refusal.{isProper, isProperShot, hasTwoBits, writeRefusal};
-
-// Whether a class is given by its name, if it has one.
-fn is_proper(class: Class) -> bool
-    ensures { λ r. ⌜ r ≡ isProper class ⌝ }
-{
-    match class {
-        Class::NoTrigger => true,
-        Class::ProbableGround => true,
-        Class::Unassigned(number) => 1 < number,
-    }
-}
-
-// Whether each class is.
-fn are_proper(classes: [ShotClass; SHOTS]) -> bool
-    ensures { λ r. ⌜ r ≡ each isProperShot classes ⌝ }
-{
-    let mut all = true;
-    let mut k = 0;
-    while k < SHOTS {
-        let shot = classes[k];
-        let class = shot.class;
-        let proper = is_proper(class);
-        all = all & proper;
-        k = k + 1;
-    }
-    all
-}
-
-// The four parts of an encoder byte, a byte each, as one number.
-fn encoder_word(encoder: Encoder) -> u32
-    ensures { λ r. ⌜ bytesHaveTwoBits r ≡ hasTwoBits encoder ⌝ }
-{
-    encoder.start as u32
-        + encoder.carried_low as u32 * 256
-        + encoder.stop as u32 * 65536
-        + encoder.carried_high as u32 * 16777216
-}
-
-// Whether each byte of a number has two bits.
-fn bytes_have_two_bits(word: u32) -> bool
-    ensures { λ r. ⌜ r ≡ bytesHaveTwoBits word ⌝ }
-{
-    let low = (word % 256 < 4) & (word / 256 % 256 < 4);
-    let high = (word / 65536 % 256 < 4) & (word / 16777216 % 256 < 4);
-    low & high
-}
-
-// Whether each part of each encoder byte has two bits: whether all of them together have no other bit.
-fn have_two_bits(encoders: [Encoder; SHOTS]) -> bool
-    ensures { λ r. ⌜ r ≡ each hasTwoBits encoders ⌝ }
-{
-    let mut bits: u32 = 0;
-    let mut k = 0;
-    while k < SHOTS {
-        let encoder = encoders[k];
-        bits = bits | encoder_word(encoder);
-        k = k + 1;
-    }
-    bytes_have_two_bits(bits)
-}
+ghost use Rattle.pedr_write_check.specs.Refusal.{writeRefusal};
 
 // Refusals 13 to 15, 40, 49 and 41, or 0.
 pub fn write_refusal(
@@ -90,7 +24,7 @@ pub fn write_refusal(
     }
     let shots = arrays.shots;
     let classes = shots.class;
-    if !are_proper(classes) {
+    if !pedr_codes::are_proper(classes) {
         return 40;
     }
     let quality = fields.quality;
@@ -105,7 +39,7 @@ pub fn write_refusal(
         return 49;
     }
     let encoders = shots.encoder;
-    if !have_two_bits(encoders) {
+    if !pedr_codes::have_two_bits(encoders) {
         return 49;
     }
     if uninterpreted.len() != UNINTERPRETED {

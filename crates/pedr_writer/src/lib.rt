@@ -33,7 +33,7 @@ fn put_tail(encoders: [Encoder; SHOTS], uninterpreted: &[u8], out: &mut [u8])
         UNINTERPRETED_509_AT,
         out,
     );
-    let bytes = pedr_segments::encoder_bytes(encoders);
+    let bytes = pedr_codes::encoder_bytes(encoders);
     octets_writer::write_u8s(&bytes, ENCODER_AT, out);
     octets_writer::copy_part(
         uninterpreted,

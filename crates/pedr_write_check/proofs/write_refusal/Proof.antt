@@ -11,7 +11,8 @@ use borrow.Author.Tests.{not-true, not-false}
 use Rattle.octets.specs.Table.{each}
 use Rattle.octets.proofs.Ladder.{pass, fail, rungs}
 use Rattle.pedr_check.specs.Refusal.{valuesRefusal}
-use Rattle.pedr_write_check.specs.Refusal.{isProperShot, hasTwoBits, writeRefusal}
+use Rattle.pedr_codes.specs.Codes.{isProperShot, hasTwoBits}
+use Rattle.pedr_write_check.specs.Refusal.{writeRefusal}
 use Rattle.pedr_write_check.proofs.write_refusal.Statement.{statement}
 use Rattle.pedr_write_check.proofs.write_refusal.Tie as tie
 

@@ -5,17 +5,17 @@ use native.Mathlib.Omega.{arith}
 use lib.ListN.{length, getD}
 use Rattle.octets.specs.Table.{table}
 use Rattle.octets.proofs.Fill.{Filled, fill-more, fill-done, table-map}
-use Rattle.pedr_arrays.specs.Arrays.{shotClass}
-use Rattle.pedr_arrays.specs.Arrays.{shotClassNumber}
+use Rattle.pedr_flags.specs.Encoder.{encoderOf}
+use Rattle.pedr_flags_writer.specs.Encoder.{encoderByte}
 use borrow.Author.Needs.{needs}
-use Rattle.pedr_segments.proofs.class_numbers.Statement.{statement}
-use Rattle.pedr_segments.proofs.class_numbers.Tie as tie
+use Rattle.pedr_codes.proofs.encoder_bytes.Statement.{statement}
+use Rattle.pedr_codes.proofs.encoder_bytes.Tie as tie
 
 abbrev Inv-loop : tie.InvT-loop
-Inv-loop classes numbers₀ k₀ numbers k = Filled (λ j. shotClassNumber (getD classes j (shotClass 0))) numbers₀ numbers k
+Inv-loop encoders bytes₀ k₀ bytes k = Filled (λ j. encoderByte (getD encoders j (encoderOf 0))) bytes₀ bytes k
 
 abbrev μ-loop : tie.MeasureT-loop
-μ-loop classes numbers₀ k₀ numbers k = 20 - k
+μ-loop encoders bytes₀ k₀ bytes k = 20 - k
 
 -- the array's length, by its type
 shots : (s : tie.Start Inv-loop μ-loop) → length (s .args .t1) ≡ 20
@@ -25,18 +25,18 @@ loop-again : tie.Need-loop-again Inv-loop μ-loop
 loop-again c =
     let l = c .before .before .before .loop in
     let xs = c .before .before .before .before .args .t1 in
-    fill-more (λ j. shotClassNumber (getD xs j (shotClass 0))) _ (l .numbers) (l .k) _ (c .before .before .loop-test .taken) (c .class-number .ensures) (l .inv)
+    fill-more (λ j. encoderByte (getD xs j (encoderOf 0))) _ (l .bytes) (l .k) _ (c .before .before .loop-test .taken) (c .encoder-byte .ensures) (l .inv)
 
 returns : tie.Need-returns Inv-loop μ-loop
 returns c =
     let l = c .before .loop in
     let s = c .before .before in
     let xs = s .args .t1 in
-    fill-done (λ j. shotClassNumber (getD xs j (shotClass 0))) _ (l .numbers) (l .k) (c .loop-test .left) (l .inv)
-    ∙ ap (λ n. table n (λ j. shotClassNumber (getD xs j (shotClass 0)))) (sym (shots s)) ∙ table-map shotClassNumber xs (shotClass 0)
+    fill-done (λ j. encoderByte (getD xs j (encoderOf 0))) _ (l .bytes) (l .k) (c .loop-test .left) (l .inv)
+    ∙ ap (λ n. table n (λ j. encoderByte (getD xs j (encoderOf 0)))) (sym (shots s)) ∙ table-map encoderByte xs (encoderOf 0)
 
-pub class-numbers-spec : {M : Type 1} → statement M
-class-numbers-spec =
+pub encoder-bytes-spec : {M : Type 1} → statement M
+encoder-bytes-spec =
     tie.close
     (tie.spec
     Inv-loop
@@ -45,7 +45,6 @@ class-numbers-spec =
     (λ c. omega arith)
     (λ c. omega arith)
     (λ c κs. search needs)
-    (λ c. omega arith)
     (λ c. omega arith)
     (λ c. omega arith)
     (λ c. omega arith)

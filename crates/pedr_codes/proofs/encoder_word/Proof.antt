@@ -1,8 +1,8 @@
 -- The word's bytes are the parts.
-use Rattle.pedr_write_check.proofs.Together.{word-test}
+use Rattle.pedr_codes.proofs.Together.{word-test}
 use borrow.Author.Needs.{needs}
-use Rattle.pedr_write_check.proofs.encoder_word.Statement.{statement}
-use Rattle.pedr_write_check.proofs.encoder_word.Tie as tie
+use Rattle.pedr_codes.proofs.encoder_word.Statement.{statement}
+use Rattle.pedr_codes.proofs.encoder_word.Tie as tie
 
 returns : tie.Need-returns
 returns c = word-test (c .before .before .before .before .args .encoder) (search needs) (search needs) (search needs) (search needs)

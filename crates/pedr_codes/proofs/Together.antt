@@ -8,8 +8,8 @@ use lib.Bits.{bitOr, or-lt, or-add-and, and-le-l, or-comm, or-mod, or-shr}
 use lib.Dec.{ltb}
 use native.Mathlib.Nat.{div-div-eq-div-mul}
 use Rattle.pedr_flags.specs.declared.Encoder.{Encoder}
-use Rattle.pedr_write_check.specs.Refusal.{hasTwoBits}
-use Rattle.pedr_write_check.specs.Together.{bytesHaveTwoBits}
+use Rattle.pedr_codes.specs.Codes.{hasTwoBits}
+use Rattle.pedr_codes.specs.Together.{bytesHaveTwoBits}
 
 -- no bit of either number is lost
 or-above : (a b : ℕ) → 4 ≤ b → 4 ≤ bitOr a b

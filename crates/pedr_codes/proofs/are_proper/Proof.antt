@@ -4,10 +4,10 @@ use mathlib.Core.Path.{_≡_}
 use native.Mathlib.Omega.{arith}
 use lib.ListN.{length}
 use Rattle.octets.proofs.Each.{Tested, tested-none, tested-more, tested-all}
-use Rattle.pedr_write_check.specs.Refusal.{isProperShot}
+use Rattle.pedr_codes.specs.Codes.{isProperShot}
 use borrow.Author.Needs.{needs}
-use Rattle.pedr_write_check.proofs.are_proper.Statement.{statement}
-use Rattle.pedr_write_check.proofs.are_proper.Tie as tie
+use Rattle.pedr_codes.proofs.are_proper.Statement.{statement}
+use Rattle.pedr_codes.proofs.are_proper.Tie as tie
 
 abbrev Inv-loop : tie.InvT-loop
 Inv-loop classes all₀ k₀ all k = Tested isProperShot classes all k

@@ -5,38 +5,38 @@ use native.Mathlib.Omega.{arith}
 use lib.ListN.{length, getD}
 use Rattle.octets.specs.Table.{table}
 use Rattle.octets.proofs.Fill.{Filled, fill-more, fill-done, table-map}
-use Rattle.pedr_flags.specs.Encoder.{encoderOf}
-use Rattle.pedr_flags_writer.specs.Encoder.{encoderByte}
+use Rattle.pedr_arrays.specs.Arrays.{shotClass}
+use Rattle.pedr_arrays.specs.Arrays.{shotClassNumber}
 use borrow.Author.Needs.{needs}
-use Rattle.pedr_segments.proofs.encoder_bytes.Statement.{statement}
-use Rattle.pedr_segments.proofs.encoder_bytes.Tie as tie
+use Rattle.pedr_codes.proofs.class_numbers.Statement.{statement}
+use Rattle.pedr_codes.proofs.class_numbers.Tie as tie
 
 abbrev Inv-loop : tie.InvT-loop
-Inv-loop encoders bytes₀ k₀ bytes k = Filled (λ j. encoderByte (getD encoders j (encoderOf 0))) bytes₀ bytes k
+Inv-loop shots numbers₀ k₀ numbers k = Filled (λ j. shotClassNumber (getD shots j (shotClass 0))) numbers₀ numbers k
 
 abbrev μ-loop : tie.MeasureT-loop
-μ-loop encoders bytes₀ k₀ bytes k = 20 - k
+μ-loop shots numbers₀ k₀ numbers k = 20 - k
 
 -- the array's length, by its type
-shots : (s : tie.Start Inv-loop μ-loop) → length (s .args .t1) ≡ 20
-shots s = search needs
+twenty : (s : tie.Start Inv-loop μ-loop) → length (s .args .t1) ≡ 20
+twenty s = search needs
 
 loop-again : tie.Need-loop-again Inv-loop μ-loop
 loop-again c =
     let l = c .before .before .before .loop in
     let xs = c .before .before .before .before .args .t1 in
-    fill-more (λ j. encoderByte (getD xs j (encoderOf 0))) _ (l .bytes) (l .k) _ (c .before .before .loop-test .taken) (c .encoder-byte .ensures) (l .inv)
+    fill-more (λ j. shotClassNumber (getD xs j (shotClass 0))) _ (l .numbers) (l .k) _ (c .before .before .loop-test .taken) (c .class-number .ensures) (l .inv)
 
 returns : tie.Need-returns Inv-loop μ-loop
 returns c =
     let l = c .before .loop in
     let s = c .before .before in
     let xs = s .args .t1 in
-    fill-done (λ j. encoderByte (getD xs j (encoderOf 0))) _ (l .bytes) (l .k) (c .loop-test .left) (l .inv)
-    ∙ ap (λ n. table n (λ j. encoderByte (getD xs j (encoderOf 0)))) (sym (shots s)) ∙ table-map encoderByte xs (encoderOf 0)
+    fill-done (λ j. shotClassNumber (getD xs j (shotClass 0))) _ (l .numbers) (l .k) (c .loop-test .left) (l .inv)
+    ∙ ap (λ n. table n (λ j. shotClassNumber (getD xs j (shotClass 0)))) (sym (twenty s)) ∙ table-map shotClassNumber xs (shotClass 0)
 
-pub encoder-bytes-spec : {M : Type 1} → statement M
-encoder-bytes-spec =
+pub class-numbers-spec : {M : Type 1} → statement M
+class-numbers-spec =
     tie.close
     (tie.spec
     Inv-loop
@@ -45,6 +45,7 @@ encoder-bytes-spec =
     (λ c. omega arith)
     (λ c. omega arith)
     (λ c κs. search needs)
+    (λ c. omega arith)
     (λ c. omega arith)
     (λ c. omega arith)
     (λ c. omega arith)

@@ -6,12 +6,12 @@ use native.Mathlib.Omega.{arith}
 use lib.ListN.{length, getD}
 use Rattle.octets.proofs.Each.{Tested, tested-none, tested-more, tested-all}
 use Rattle.pedr_flags.specs.Encoder.{encoderOf}
-use Rattle.pedr_write_check.specs.Refusal.{hasTwoBits}
-use Rattle.pedr_write_check.specs.Together.{bytesHaveTwoBits}
-use Rattle.pedr_write_check.proofs.Together.{together}
+use Rattle.pedr_codes.specs.Codes.{hasTwoBits}
+use Rattle.pedr_codes.specs.Together.{bytesHaveTwoBits}
+use Rattle.pedr_codes.proofs.Together.{together}
 use borrow.Author.Needs.{needs}
-use Rattle.pedr_write_check.proofs.have_two_bits.Statement.{statement}
-use Rattle.pedr_write_check.proofs.have_two_bits.Tie as tie
+use Rattle.pedr_codes.proofs.have_two_bits.Statement.{statement}
+use Rattle.pedr_codes.proofs.have_two_bits.Tie as tie
 
 abbrev Inv-loop : tie.InvT-loop
 Inv-loop encoders bits₀ k₀ bits k = Tested hasTwoBits encoders (bytesHaveTwoBits bits) k
