@@ -1,3 +1,4 @@
+pub mod ClassRefusal
 pub mod Laid
 pub mod Layout
 pub mod RecordLayout

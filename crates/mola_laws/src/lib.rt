@@ -1,5 +1,6 @@
-// The structs that C and Rust share with the exported functions. A contract may not name how its own crate's structs lie in memory, so that this
-// is a crate above `mola`.
+// What C and Rust can rely on: how the structs lie that they share with the exported functions, and the refusal that they cannot get. A contract may not
+// name how its own crate's structs lie in memory, so that this is a crate above `mola`.
+ghost use Rattle.mola_laws.specs.ClassRefusal.{NoClassRefused};
 ghost use Rattle.mola_laws.specs.Layout.{StructLayouts};
 ghost use Rattle.mola_laws.specs.RecordLayout.{RecordLayouts};
 
@@ -11,4 +12,9 @@ pub fn struct_layouts()
 // Where the fields of each struct of PEDR records lie.
 pub fn record_layouts()
     ensures { λ _. ⌜ RecordLayouts ⌝ }
+{}
+
+// 40 does not come from C: a class is its number there, and the class of any number can be written.
+pub fn classes_not_refused()
+    ensures { λ _. ⌜ NoClassRefused ⌝ }
 {}

@@ -34,7 +34,8 @@ use Rattle.pedr_arrays.specs.Arrays.{shotClass, classesOf, encodersOf, shotArra
 use Rattle.pedr_arrays.specs.Uninterpreted.{uninterpretedOf}
 use Rattle.pedr_fields.specs.Fields.{timeOf, positionOf, pointingOf, rangesOf, receiverOf, linkOf, fieldsOf}
 use Rattle.pedr_check.specs.Refusal.{valuesRefusal, recordRefusal}
-use Rattle.pedr_codes.specs.Codes.{isProper, isProperShot, hasTwoBits}
+use Rattle.pedr_codes.specs.Codes.{isProperShot, hasTwoBits}
+use Rattle.pedr_codes.proofs.Proper.{class-proper}
 use Rattle.pedr_write_check.specs.Refusal.{writeRefusal}
 use Rattle.pedr_write_check.proofs.Accept.{Proper, room-decides}
 use Rattle.pedr_arrays.specs.Arrays.{shotClassNumber}
@@ -152,13 +153,7 @@ module _ (s : List ℕ) (o : Octets s) (z : recordRefusal s ≡ 0) where
 
   proper-classes : each isProperShot (classesOf s) ≡ true
   unfolding classesOf
-  proper-classes = each-table isProperShot 20 (λ k. shotClass (item s columns.class k)) (λ k. proper (item s columns.class k))
-    where
-      proper : (n : ℕ) → isProper (classOf n) ≡ true
-      proper zero = refl
-      proper (suc zero) = refl
-      proper (suc (suc n)) =
-          simp (ne-eqb (suc (suc n)) 0 (λ e. omega arith), ne-eqb (suc (suc n)) 1 (λ e. omega arith)) (lt-ltb 1 (suc (suc n)) (omega arith))
+  proper-classes = each-table isProperShot 20 (λ k. shotClass (item s columns.class k)) (λ k. class-proper (item s columns.class k))
 
   two-bits : each hasTwoBits (encodersOf s) ≡ true
   unfolding encodersOf
