@@ -1,4 +1,4 @@
-// The columns of a PEDR record that are several numbers.
+// The columns of a PEDR record that are several numbers, and its uninterpreted bytes.
 use pedr_flags::Class;
 use pedr_flags::Encoder;
 use pedr_flags::ShotFailures;

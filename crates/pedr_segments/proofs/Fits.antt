@@ -21,14 +21,14 @@ use Rattle.pedr_arrays.specs.declared.ChannelArrays.{ChannelArrays}
 use Rattle.pedr_arrays.specs.declared.RecordArrays.{RecordArrays}
 use Rattle.pedr_fields.specs.declared.RecordFields.{RecordFields}
 use Rattle.pedr_arrays.specs.Arrays.{shotClassNumber}
-use Rattle.pedr_segments.specs.Parts.{headParts, frameParts, pulseParts, groundParts, gateParts, receiverParts, linkParts, tailParts, recordParts}
+use Rattle.pedr_segments.specs.Parts.{headParts, radiiParts, pulseParts, groundParts, gateParts, receiverParts, linkParts, tailParts, recordParts}
 
 -- the columns of each segment
 abbrev pub headColumns : List Column
 headColumns = take 9 recordColumns
 
-abbrev pub frameColumns : List Column
-frameColumns = take 6 (drop 9 recordColumns)
+abbrev pub radiiColumns : List Column
+radiiColumns = take 6 (drop 9 recordColumns)
 
 abbrev pub pulseColumns : List Column
 pulseColumns = take 5 (drop 15 recordColumns)
@@ -79,8 +79,8 @@ descriptor-length d fs = octets-length 16 (fromBits (descriptorBits d fs))
 pub head-fits : (f : RecordFields) → Fit (headParts f) headColumns
 head-fits f = refl ▹ refl ▹ refl ▹ refl ▹ refl ▹ refl ▹ refl ▹ refl ▹ refl ▹ done
 
-pub frame-fits : (f : RecordFields) (s : ShotArrays) → length (s .radius) ≡ 20 → Fit (frameParts f s) frameColumns
-frame-fits f s l = descriptor-length (f .descriptor) (s .failures) ▹ run unsigned 4 20 (s .radius) l ▹ refl ▹ refl ▹ refl ▹ refl ▹ done
+pub radii-fits : (f : RecordFields) (s : ShotArrays) → length (s .radius) ≡ 20 → Fit (radiiParts f s) radiiColumns
+radii-fits f s l = descriptor-length (f .descriptor) (s .failures) ▹ run unsigned 4 20 (s .radius) l ▹ refl ▹ refl ▹ refl ▹ refl ▹ done
 
 pub pulse-fits : (s : ShotArrays) → length (s .energy) ≡ 20 → length (s .reflectivity) ≡ 20 → length (s .«trigger_channel») ≡ 20
     → length (s .«pulse_width») ≡ 20 → length (s .«optical_width») ≡ 20 → Fit (pulseParts s) pulseColumns
@@ -122,7 +122,7 @@ pub record-fits : (f : RecordFields) (a : RecordArrays) (x : List ℕ) → Sizes
 record-fits f a x z l =
     let s = z .shots in
     fit-append (head-fits f)
-    (fit-append (frame-fits f (a .shots) (s .radius))
+    (fit-append (radii-fits f (a .shots) (s .radius))
     (fit-append (pulse-fits (a .shots) (s .energy) (s .reflectivity) (s .trigger-channel) (s .pulse-width) (s .optical-width))
     (fit-append (ground-fits f a (z .xyz) (s .laser-power) (s .class))
     (fit-append (gate-fits f (a .channels) (z .noise) (z .thresholds))

@@ -31,8 +31,8 @@ headParts f =
     ∷ []
 
 -- bytes 33 to 144
-abbrev pub frameParts : RecordFields → ShotArrays → List (List ℕ)
-frameParts f s =
+abbrev pub radiiParts : RecordFields → ShotArrays → List (List ℕ)
+radiiParts f s =
     descriptorOctets (f .descriptor) (s .failures)
     ∷ holdingAll columns.radius (s .radius)
     ∷ holding columns.frameRadius (f .ranges .«frame_radius»)
@@ -101,7 +101,7 @@ tailParts es x =
 abbrev pub recordParts : RecordFields → RecordArrays → List ℕ → List (List ℕ)
 recordParts f a x =
     headParts f
-    ++ (frameParts f (a .shots)
+    ++ (radiiParts f (a .shots)
     ++ (pulseParts (a .shots)
     ++ (groundParts f a
     ++ (gateParts f (a .channels)

@@ -41,7 +41,7 @@ fn put_u32x20(numbers: [u32; SHOTS], i: usize, out: &mut [u8])
     octets_writer::write_u32s(&numbers, i, out);
 }
 
-// Bytes 1 to 32.
+// Bytes 1 to 32: time, position, the range at mid-point, quality.
 pub fn put_head(fields: RecordFields, out: &mut [u8])
     ensures { λ _. ⌜ now (out .exit) ≡ put (now (out .entry)) 0 (join (parts.headParts fields)) ⌝ }
 {
@@ -60,9 +60,9 @@ pub fn put_head(fields: RecordFields, out: &mut [u8])
     octets_writer::write_u32(word, QUALITY_NUMBER_AT, out);
 }
 
-// Bytes 33 to 144.
-pub fn put_frame(fields: RecordFields, shots: ShotArrays, out: &mut [u8])
-    ensures { λ _. ⌜ now (out .exit) ≡ put (now (out .entry)) 32 (join (parts.frameParts fields shots)) ⌝ }
+// Bytes 33 to 144: the tests, the shots' radii, the frame's radius, pointing.
+pub fn put_radii(fields: RecordFields, shots: ShotArrays, out: &mut [u8])
+    ensures { λ _. ⌜ now (out .exit) ≡ put (now (out .entry)) 32 (join (parts.radiiParts fields shots)) ⌝ }
 {
     let descriptor = fields.descriptor;
     let failures = shots.failures;
@@ -79,7 +79,7 @@ pub fn put_frame(fields: RecordFields, shots: ShotArrays, out: &mut [u8])
     octets_writer::write_i32(pointing.twist, 140, out);
 }
 
-// Bytes 145 to 324.
+// Bytes 145 to 324: the shots' energies, reflectivities, trigger channels and pulse widths.
 pub fn put_pulses(shots: ShotArrays, out: &mut [u8])
     ensures { λ _. ⌜ now (out .exit) ≡ put (now (out .entry)) 144 (join (parts.pulseParts shots)) ⌝ }
 {
@@ -105,7 +105,7 @@ fn xyz_bits(xyz: [i32; 3]) -> [u32; 3]
     [x, y, z]
 }
 
-// Bytes 325 to 424.
+// Bytes 325 to 424: coordinates on the ground, the shots' laser powers and classes.
 pub fn put_ground(fields: RecordFields, arrays: RecordArrays, out: &mut [u8])
     ensures { λ _. ⌜ now (out .exit) ≡ put (now (out .entry)) 324 (join (parts.groundParts fields arrays)) ⌝ }
 {
@@ -123,7 +123,7 @@ pub fn put_ground(fields: RecordFields, arrays: RecordArrays, out: &mut [u8])
     put_u16x20(numbers, CLASS_AT, out);
 }
 
-// Bytes 425 to 480.
+// Bytes 425 to 480: noise, the range gate, thresholds.
 pub fn put_gate(fields: RecordFields, noise: [u32; 8], thresholds: [u16; 8], out: &mut [u8])
     ensures { λ _. ⌜ now (out .exit) ≡ put (now (out .entry)) 424 (join (parts.gateParts fields (record { noise = noise; thresholds = thresholds }))) ⌝ }
 {
@@ -134,7 +134,7 @@ pub fn put_gate(fields: RecordFields, noise: [u32; 8], thresholds: [u16; 8], out
     octets_writer::write_u16s(&thresholds, 464, out);
 }
 
-// Bytes 481 to 492.
+// Bytes 481 to 492: the receiver's numbers, the frame index.
 pub fn put_receiver(fields: RecordFields, out: &mut [u8])
     ensures { λ _. ⌜ now (out .exit) ≡ put (now (out .entry)) 480 (join (parts.receiverParts fields)) ⌝ }
 {
@@ -147,7 +147,7 @@ pub fn put_receiver(fields: RecordFields, out: &mut [u8])
     octets_writer::write_u16(receiver.frame_index, FRAME_INDEX_AT, out);
 }
 
-// Bytes 493 to 508.
+// Bytes 493 to 508: the packet's header and time.
 pub fn put_link(fields: RecordFields, source_header: [u32; 2], out: &mut [u8])
     ensures { λ _. ⌜ now (out .exit) ≡ put (now (out .entry)) 492 (join (parts.linkParts fields «source_header»)) ⌝ }
 {

@@ -12,12 +12,12 @@ use Rattle.layout.proofs.Store.{Puts, puts-join}
 use Rattle.pedr_layout.specs.Layout.{recordColumns}
 use Rattle.pedr_arrays.specs.declared.RecordArrays.{RecordArrays}
 use Rattle.pedr_fields.specs.declared.RecordFields.{RecordFields}
-use Rattle.pedr_segments.specs.Parts.{headParts, frameParts, pulseParts, groundParts, gateParts, receiverParts, linkParts, tailParts, recordParts, recordOf}
-use Rattle.pedr_segments.proofs.Fits.{Sizes, headColumns, frameColumns, pulseColumns, groundColumns, gateColumns, receiverColumns, linkColumns, tailColumns, head-fits, frame-fits, pulse-fits, ground-fits, gate-fits, receiver-fits, link-fits, tail-fits, record-fits}
+use Rattle.pedr_segments.specs.Parts.{headParts, radiiParts, pulseParts, groundParts, gateParts, receiverParts, linkParts, tailParts, recordParts, recordOf}
+use Rattle.pedr_segments.proofs.Fits.{Sizes, headColumns, radiiColumns, pulseColumns, groundColumns, gateColumns, receiverColumns, linkColumns, tailColumns, head-fits, radii-fits, pulse-fits, ground-fits, gate-fits, receiver-fits, link-fits, tail-fits, record-fits}
 
 abbrev pub sections : RecordFields → RecordArrays → List ℕ → List (List ℕ)
 sections f a x =
-    join (headParts f) ∷ join (frameParts f (a .shots)) ∷ join (pulseParts (a .shots)) ∷ join (groundParts f a) ∷ join (gateParts f (a .channels))
+    join (headParts f) ∷ join (radiiParts f (a .shots)) ∷ join (pulseParts (a .shots)) ∷ join (groundParts f a) ∷ join (gateParts f (a .channels))
     ∷ join (receiverParts f) ∷ join (linkParts f (a .«source_header»)) ∷ join (tailParts (a .shots .encoder) x) ∷ []
 
 abbrev pub sectionColumns : List Column
@@ -37,7 +37,7 @@ module _ (f : RecordFields) (a : RecordArrays) (x : List ℕ) (z : Sizes a) (l :
   sections-fit =
       let s = z .shots in
       segment (headParts f) headColumns 0 32 32 refl refl (head-fits f)
-      ▹ segment (frameParts f (a .shots)) frameColumns 32 112 144 refl refl (frame-fits f (a .shots) (s .radius))
+      ▹ segment (radiiParts f (a .shots)) radiiColumns 32 112 144 refl refl (radii-fits f (a .shots) (s .radius))
       ▹ segment (pulseParts (a .shots)) pulseColumns 144 180 324 refl refl
       (pulse-fits (a .shots) (s .energy) (s .reflectivity) (s .trigger-channel) (s .pulse-width) (s .optical-width))
       ▹ segment (groundParts f a) groundColumns 324 100 424 refl refl (ground-fits f a (z .xyz) (s .laser-power) (s .class))
@@ -56,16 +56,16 @@ module _ (f : RecordFields) (a : RecordArrays) (x : List ℕ) (z : Sizes a) (l :
       let p5 = gateParts f (a .channels) ++ p6 in
       let p4 = groundParts f a ++ p5 in
       let p3 = pulseParts (a .shots) ++ p4 in
-      let p2 = frameParts f (a .shots) ++ p3 in
+      let p2 = radiiParts f (a .shots) ++ p3 in
       let s8 = join p8 ∷ [] in
       let s7 = join (linkParts f (a .«source_header»)) ∷ s8 in
       let s6 = join (receiverParts f) ∷ s7 in
       let s5 = join (gateParts f (a .channels)) ∷ s6 in
       let s4 = join (groundParts f a) ∷ s5 in
       let s3 = join (pulseParts (a .shots)) ∷ s4 in
-      let s2 = join (frameParts f (a .shots)) ∷ s3 in
+      let s2 = join (radiiParts f (a .shots)) ∷ s3 in
       before (headParts f) p2 s2
-      (before (frameParts f (a .shots)) p3 s3
+      (before (radiiParts f (a .shots)) p3 s3
       (before (pulseParts (a .shots)) p4 s4
       (before (groundParts f a) p5 s5
       (before (gateParts f (a .channels)) p6 s6

@@ -21,7 +21,7 @@ pub enum RecordWritten {
     Written,
 }
 
-// Bytes 509 to 776.
+// Bytes 509 to 776: the encoder bytes between the uninterpreted ones.
 fn put_tail(encoders: [Encoder; SHOTS], uninterpreted: &[u8], out: &mut [u8])
     requires { ⌜ length (now uninterpreted) ≡ 248 ⌝ }
     ensures { λ _. ⌜ now (out .exit) ≡ put (now (out .entry)) 508 (join (parts.tailParts encoders (now (uninterpreted .entry)))) ⌝ }
@@ -56,7 +56,7 @@ fn put_record(fields: RecordFields, arrays: RecordArrays, uninterpreted: &[u8], 
     let source_header = arrays.source_header;
     let encoders = shots.encoder;
     pedr_segments::put_head(fields, out);
-    pedr_segments::put_frame(fields, shots, out);
+    pedr_segments::put_radii(fields, shots, out);
     pedr_segments::put_pulses(shots, out);
     pedr_segments::put_ground(fields, arrays, out);
     pedr_segments::put_gate(fields, noise, thresholds, out);

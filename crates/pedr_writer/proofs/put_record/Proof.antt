@@ -45,7 +45,7 @@ returns c =
     let a = s .args in
     whole (a .fields) (a .arrays) (now (a .uninterpreted)) (sizes s) (s .pre .0) (now (a .out)) _ (s .pre .1)
     (c .before .before .before .before .before .before .before .before .before .before .before .before .before .before .before .before .before .before .before .before .before .before .before .before .before .before .before .before .before .before .put-head .ensures
-    ▸ c .before .before .before .before .before .before .before .before .before .before .before .before .before .before .before .before .before .before .before .before .before .before .before .before .before .before .put-frame .ensures
+    ▸ c .before .before .before .before .before .before .before .before .before .before .before .before .before .before .before .before .before .before .before .before .before .before .before .before .before .before .put-radii .ensures
     ▸ c .before .before .before .before .before .before .before .before .before .before .before .before .before .before .before .before .before .before .before .before .before .before .put-pulses .ensures
     ▸ c .before .before .before .before .before .before .before .before .before .before .before .before .before .before .before .before .before .before .put-ground .ensures
     ▸ c .before .before .before .before .before .before .before .before .before .before .before .before .before .before .put-gate .ensures
