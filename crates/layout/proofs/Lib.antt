@@ -1,3 +1,4 @@
 pub mod Cover
 pub mod Store
 pub mod Values
+pub mod Row
