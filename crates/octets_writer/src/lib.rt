@@ -2,7 +2,6 @@
 // end is left out.
 ghost use mathlib.Core.Path.{_≡_};
 ghost use Rattle.octets.specs.Bytes.{octetsOf, complemented, put};
-ghost use Rattle.octets.specs.Table.{octetsAt, octetsOfAll};
 
 // The bytes of a number of 16 bits.
 pub fn u16_bytes(x: u16) -> [u8; 2]
@@ -39,6 +38,14 @@ fn u64_bytes(x: u64) -> [u8; 8]
     ]
 }
 
+// Stores a number of 8 bits at index i.
+pub fn write_u8(x: u8, i: usize, out: &mut [u8])
+    ensures { λ _. ⌜ now (out .exit) ≡ put (now (out .entry)) i (octetsOf 1 x) ⌝ }
+{
+    let bytes = [x];
+    octets::write_into(&bytes, i, out);
+}
+
 // Stores a number of 16 bits from index i on.
 pub fn write_u16(x: u16, i: usize, out: &mut [u8])
     ensures { λ _. ⌜ now (out .exit) ≡ put (now (out .entry)) i (octetsOf 2 x) ⌝ }
@@ -64,7 +71,7 @@ pub fn write_u64(x: u64, i: usize, out: &mut [u8])
 }
 
 // The bits of a signed number of 16 bits in two's complement.
-fn i16_bits(x: i16) -> u16
+pub fn i16_bits(x: i16) -> u16
     ensures { λ r. ⌜ r ≡ complemented 16 x ⌝ }
 {
     if x < 0 {
@@ -97,49 +104,4 @@ pub fn write_i32(x: i32, i: usize, out: &mut [u8])
     ensures { λ _. ⌜ now (out .exit) ≡ put (now (out .entry)) i (octetsOf 4 (complemented 32 x)) ⌝ }
 {
     write_u32(i32_bits(x), i, out);
-}
-
-// Stores n bytes, from index i on, in out from index at on; a byte past the end is read as 0.
-pub fn copy_part(bytes: &[u8], i: usize, n: usize, at: usize, out: &mut [u8])
-    ensures { λ _. ⌜ now (out .exit) ≡ put (now (out .entry)) at (octetsAt (now (bytes .entry)) i n) ⌝ }
-{
-    let from = octets::least(i, bytes.len());
-    let to = octets::least(at, out.len());
-    let count = octets::least(n, out.len() - to);
-    let mut k = 0;
-    while k < count {
-        out[to + k] = octets::u8_at(bytes, from + k);
-        k = k + 1;
-    }
-}
-
-// Stores bytes from index i on, as numbers of 8 bits.
-pub fn write_u8s(numbers: &[u8], i: usize, out: &mut [u8])
-    ensures { λ _. ⌜ now (out .exit) ≡ put (now (out .entry)) i (octetsOfAll 1 (now (numbers .entry))) ⌝ }
-{
-    octets::write_into(numbers, i, out);
-}
-
-// Stores numbers of 16 bits, one after the other, from index i on.
-pub fn write_u16s(numbers: &[u16], i: usize, out: &mut [u8])
-    ensures { λ _. ⌜ now (out .exit) ≡ put (now (out .entry)) i (octetsOfAll 2 (now (numbers .entry))) ⌝ }
-{
-    let from = octets::least(i, out.len());
-    let mut k = 0;
-    while k < numbers.len() {
-        write_u16(numbers[k], from + 2 * k, out);
-        k = k + 1;
-    }
-}
-
-// Stores numbers of 32 bits, one after the other, from index i on.
-pub fn write_u32s(numbers: &[u32], i: usize, out: &mut [u8])
-    ensures { λ _. ⌜ now (out .exit) ≡ put (now (out .entry)) i (octetsOfAll 4 (now (numbers .entry))) ⌝ }
-{
-    let from = octets::least(i, out.len());
-    let mut k = 0;
-    while k < numbers.len() {
-        write_u32(numbers[k], from + 4 * k, out);
-        k = k + 1;
-    }
 }

@@ -4,8 +4,8 @@ use denote.Ref.{now}
 use Rattle.octets.specs.Bytes.{put}
 use Rattle.octets.proofs.Runs.{all-bytes}
 use borrow.Author.Needs.{needs}
-use Rattle.octets_writer.proofs.write_u8s.Statement.{statement}
-use Rattle.octets_writer.proofs.write_u8s.Tie as tie
+use Rattle.octets_runs_writer.proofs.write_u8s.Statement.{statement}
+use Rattle.octets_runs_writer.proofs.write_u8s.Tie as tie
 
 returns : tie.Need-returns
 returns c =

@@ -9,8 +9,8 @@ use Rattle.octets.specs.Table.{octetsAt}
 use Rattle.octets.proofs.Fill.{octets-count, octets-at}
 use Rattle.octets.proofs.Read.{past-end}
 use Rattle.octets.proofs.Store.{Stored, store-none, store-more, store-done}
-use Rattle.octets_writer.proofs.copy_part.Statement.{statement}
-use Rattle.octets_writer.proofs.copy_part.Tie as tie
+use Rattle.octets_runs_writer.proofs.copy_part.Statement.{statement}
+use Rattle.octets_runs_writer.proofs.copy_part.Tie as tie
 
 abbrev Inv-loop : tie.InvT-loop
 Inv-loop bytes i n at out₀ from to count k₀ out k =
