@@ -163,9 +163,13 @@ packetMillis = 505 i2
 abbrev pub fineTime : Column
 fineTime = 507 u2
 
--- bytes 509-620 are not interpreted
-abbrev pub uninterpreted509 : Column
-uninterpreted509 = 509 u1× 112
+-- the engineering block, bytes 509-536, whose columns go by the frame index
+abbrev pub block : Column
+block = 509 u1× 28
+
+-- bytes 537-620 are not interpreted
+abbrev pub uninterpreted537 : Column
+uninterpreted537 = 537 u1× 84
 
 -- encoder bytes are 621-640, one per shot
 abbrev pub encoder : Column
@@ -187,4 +191,4 @@ abbrev pub recordSize : ℕ
 recordSize = 776
 
 abbrev pub recordColumns : List Column
-recordColumns = listedColumns ++ uninterpreted509 ∷ encoder ∷ uninterpreted641 ∷ []
+recordColumns = listedColumns ++ block ∷ uninterpreted537 ∷ encoder ∷ uninterpreted641 ∷ []
