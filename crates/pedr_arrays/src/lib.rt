@@ -13,7 +13,7 @@ use pedr_layout::REFLECTIVITY_AT;
 use pedr_layout::SHOTS;
 use pedr_layout::TRIGGER_CHANNEL_AT;
 use pedr_layout::UNINTERPRETED;
-use pedr_layout::UNINTERPRETED_509_AT;
+use pedr_layout::UNINTERPRETED_537_AT;
 use pedr_layout::UNINTERPRETED_641_AT;
 use pedr_layout::UNINTERPRETED_BEFORE;
 ghost use mathlib.Core.Path.{_≡_};
@@ -180,19 +180,19 @@ pub fn read_arrays(bytes: &[u8]) -> RecordArrays
     }
 }
 
-// Reads the bytes that are not interpreted: record bytes 509 to 620, and then 641 to 776. Any bytes; a byte past the end reads as 0.
+// Reads the bytes that are not interpreted: record bytes 537 to 620, and then 641 to 776. Any bytes; a byte past the end reads as 0.
 pub fn read_uninterpreted(bytes: &[u8]) -> [u8; UNINTERPRETED]
     ensures { λ r. ⌜ r ≡ uninterpretedOf (now (bytes .entry)) ⌝ }
 {
     let mut uninterpreted = [0u8; UNINTERPRETED];
-    octets_writer::copy_part(
+    octets_runs_writer::copy_part(
         bytes,
-        UNINTERPRETED_509_AT,
+        UNINTERPRETED_537_AT,
         UNINTERPRETED_BEFORE,
         0,
         &mut uninterpreted,
     );
-    octets_writer::copy_part(
+    octets_runs_writer::copy_part(
         bytes,
         UNINTERPRETED_641_AT,
         UNINTERPRETED - UNINTERPRETED_BEFORE,

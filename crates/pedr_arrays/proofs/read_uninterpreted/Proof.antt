@@ -14,14 +14,14 @@ use borrow.Author.Needs.{needs}
 use Rattle.pedr_arrays.proofs.read_uninterpreted.Statement.{statement}
 use Rattle.pedr_arrays.proofs.read_uninterpreted.Tie as tie
 
--- two stores that fill a list of 248
-filled : (s d x y : List ℕ) → length d ≡ 248 → x ≡ put d 0 (octetsAt s 508 112) → y ≡ put x 112 (octetsAt s 640 136) → y ≡ uninterpretedOf s
+-- two stores that fill a list of 220
+filled : (s d x y : List ℕ) → length d ≡ 220 → x ≡ put d 0 (octetsAt s 536 84) → y ≡ put x 84 (octetsAt s 640 136) → y ≡ uninterpretedOf s
 unfolding uninterpretedOf
 filled s d x y l e f =
-    let a = octetsAt s 508 112 in
+    let a = octetsAt s 536 84 in
     let b = octetsAt s 640 136 in
-    let n : length (a ++ b) ≡ 248 = length-append a b ∙ omega (arith, octets-count s 508 112, octets-count s 640 136) in
-    f ∙ ap (λ (z : List ℕ). put z 112 b) e ∙ put-then a d b 0 112 (omega (arith, octets-count s 508 112)) ∙ put-whole d (a ++ b) (omega arith)
+    let n : length (a ++ b) ≡ 220 = length-append a b ∙ omega (arith, octets-count s 536 84, octets-count s 640 136) in
+    f ∙ ap (λ (z : List ℕ). put z 84 b) e ∙ put-then a d b 0 84 (omega (arith, octets-count s 536 84)) ∙ put-whole d (a ++ b) (omega arith)
 
 returns : tie.Need-returns
 returns c =
