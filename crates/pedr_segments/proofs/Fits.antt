@@ -1,27 +1,23 @@
 -- The parts of a record fit its columns, segment by segment.
-use Prim.Native.Nat.{ℕ, _+_, _*_, _-_, _≤_}
+use Prim.Native.Nat.{ℕ, _*_}
 use mathlib.Core.Path.{_≡_, refl, ap, _∙_}
 use mathlib.Core.List.{List, [], _∷_, map}
-use native.Mathlib.Omega.{arith}
-use lib.ListN.{length, take, drop, length-map, length-drop}
-use lib.Seq.{length-take-le}
+use lib.ListN.{length, take, drop, length-map}
 use Rattle.octets.proofs.Codec.{octets-length}
 use Rattle.layout.specs.Column.{Column, Sign, unsigned, complement, Number, numbersOctets}
-use Rattle.layout.proofs.Cover.{Fit, done, _▹_, fit-append}
+use Rattle.layout.proofs.Cover.{Fit, done, _▹_}
 use Rattle.layout.proofs.Values.{numbers-length}
 use Rattle.numbers.specs.Bit.{fromBits}
 use Rattle.pedr_layout.specs.Layout.{recordColumns}
 use Rattle.pedr_flags.specs.declared.Descriptor.{Descriptor}
 use Rattle.pedr_flags.specs.declared.ShotFailures.{ShotFailures}
-use Rattle.pedr_flags.specs.declared.Encoder.{Encoder}
-use Rattle.pedr_flags_writer.specs.Encoder.{encoderByte}
 use Rattle.pedr_flags_writer.specs.Descriptor.{descriptorBits, descriptorOctets}
 use Rattle.pedr_arrays.specs.declared.ShotArrays.{ShotArrays}
 use Rattle.pedr_arrays.specs.declared.ChannelArrays.{ChannelArrays}
 use Rattle.pedr_arrays.specs.declared.RecordArrays.{RecordArrays}
 use Rattle.pedr_fields.specs.declared.RecordFields.{RecordFields}
 use Rattle.pedr_arrays.specs.Arrays.{shotClassNumber}
-use Rattle.pedr_segments.specs.Parts.{headParts, radiiParts, pulseParts, groundParts, gateParts, receiverParts, linkParts, tailParts, recordParts}
+use Rattle.pedr_segments.specs.Parts.{headParts, radiiParts, pulseParts, groundParts, gateParts, receiverParts, linkParts}
 
 -- the columns of each segment
 abbrev pub headColumns : List Column
@@ -45,9 +41,6 @@ receiverColumns = take 6 (drop 28 recordColumns)
 abbrev pub linkColumns : List Column
 linkColumns = take 4 (drop 34 recordColumns)
 
-abbrev pub tailColumns : List Column
-tailColumns = drop 38 recordColumns
-
 -- the lengths of the arrays, which their types give
 pub record ShotSizes (s : ShotArrays) : Type 0 where
   pub radius : length (s .radius) ≡ 20
@@ -69,7 +62,7 @@ pub record Sizes (a : RecordArrays) : Type 0 where
   pub source-header : length (a .«source_header») ≡ 2
 
 -- n numbers of w bytes each
-run : (g : Sign) (w n : ℕ) (xs : List (Number g)) → length xs ≡ n → length (numbersOctets g w xs) ≡ w * n
+pub run : (g : Sign) (w n : ℕ) (xs : List (Number g)) → length xs ≡ n → length (numbersOctets g w xs) ≡ w * n
 run g w n xs e = numbers-length g w xs ∙ ap (λ (k : ℕ). w * k) e
 
 pub descriptor-length : (d : Descriptor) (fs : List ShotFailures) → length (descriptorOctets d fs) ≡ 16
@@ -109,22 +102,3 @@ receiver-fits f = refl ▹ refl ▹ refl ▹ refl ▹ refl ▹ refl ▹ done
 
 pub link-fits : (f : RecordFields) (h : List ℕ) → length h ≡ 2 → Fit (linkParts f h) linkColumns
 link-fits f h l = run unsigned 4 2 h l ▹ refl ▹ refl ▹ refl ▹ done
-
-pub tail-fits : (es : List Encoder) (x : List ℕ) → length es ≡ 20 → length x ≡ 248 → Fit (tailParts es x) tailColumns
-tail-fits es x le lx =
-    let after : length (drop 112 x) ≡ 136 = length-drop 112 x ∙ omega arith in
-    length-take-le 112 x (omega arith)
-    ▹ run unsigned 1 20 (map encoderByte es) (length-map es encoderByte ∙ le)
-    ▹ after
-    ▹ done
-
-pub record-fits : (f : RecordFields) (a : RecordArrays) (x : List ℕ) → Sizes a → length x ≡ 248 → Fit (recordParts f a x) recordColumns
-record-fits f a x z l =
-    let s = z .shots in
-    fit-append (head-fits f)
-    (fit-append (radii-fits f (a .shots) (s .radius))
-    (fit-append (pulse-fits (a .shots) (s .energy) (s .reflectivity) (s .trigger-channel) (s .pulse-width) (s .optical-width))
-    (fit-append (ground-fits f a (z .xyz) (s .laser-power) (s .class))
-    (fit-append (gate-fits f (a .channels) (z .noise) (z .thresholds))
-    (fit-append (receiver-fits f)
-    (fit-append (link-fits f (a .«source_header») (z .source-header)) (tail-fits (a .shots .encoder) x (s .encoder) l)))))))

@@ -3,15 +3,11 @@ use Prim.Native.Nat.{ℕ, _+_, _*_, _^_, _<_, _≤_}
 use mathlib.Core.Path.{_≡_, refl, sym, ap, _∙_}
 use mathlib.Core.List.{List, [], _∷_, _++_}
 use native.Mathlib.Omega.{arith}
-use lib.IntN.{ℤ}
 use lib.ListN.{length, take, drop, length-drop}
 use lib.Seq.{take-all}
-use mir.Syntax.{Width}
-use mir.Val.{SFits, toZ, ofZ}
-use mir.ValLaws.{toZ-ofZ}
 use Rattle.numbers.specs.Bit.{fromBits}
 use Rattle.numbers.proofs.Bits.{bits-set-le}
-use Rattle.octets.specs.Bytes.{octetsOf, complemented, put}
+use Rattle.octets.specs.Bytes.{octetsOf, put}
 use Rattle.octets.specs.Table.{octetsAt, octetsOfAll}
 use Rattle.octets.proofs.Codec.{octets-length, octets-split, octets-part}
 use Rattle.octets.proofs.Runs.{all-append, all-one}
@@ -22,11 +18,6 @@ use Rattle.pedr_flags.specs.declared.Descriptor.{Descriptor}
 use Rattle.pedr_flags.specs.declared.ShotFailures.{ShotFailures}
 use Rattle.pedr_flags_writer.specs.Quality.{qualityBits}
 use Rattle.pedr_flags_writer.specs.Descriptor.{descriptorBits, descriptorOctets}
-
--- a signed number, as the machine holds it, over the width
-pub signed-stored : (w : Width) (n k : ℕ) (z : ℤ) (t s : List ℕ) (i : ℕ) → SFits w z → t ≡ put s i (octetsOf n (complemented k (toZ w (ofZ w z))))
-    → t ≡ put s i (octetsOf n (complemented k z))
-signed-stored w n k z t s i f e = e ∙ ap (λ (x : ℤ). put s i (octetsOf n (complemented k x))) (toZ-ofZ w z f)
 
 -- the quality number and its counter, stored as one number
 pub quality-stored : (q : Quality) (word : ℕ) (t s : List ℕ) → word ≡ qualityBits q * 256 + goodCount (q .good) → t ≡ put s 28 (octetsOf 4 word)

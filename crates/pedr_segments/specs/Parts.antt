@@ -1,15 +1,12 @@
--- Request 1, "Precision records written": every field read, the carried bits and the uninterpreted bytes. The bytes of the record's columns, in the order of
--- its table.
+-- Request 1, "Precision records written": every field read and the carried bits. The bytes of the record's columns from byte 1 to 508, in the order of its
+-- table.
 use Prim.Native.Nat.{ℕ}
-use mathlib.Core.List.{List, [], _∷_, _++_, map}
-use lib.ListN.{take, drop}
-use Rattle.layout.specs.Column.{holding, holdingAll, join}
+use mathlib.Core.List.{List, [], _∷_, map}
+use Rattle.layout.specs.Column.{holding, holdingAll}
 use Rattle.pedr_layout.specs.Layout as columns
 use Rattle.pedr_flags.specs.Quality.{goodCount}
 use Rattle.pedr_flags_writer.specs.Quality.{qualityBits}
 use Rattle.pedr_flags_writer.specs.Descriptor.{descriptorOctets}
-use Rattle.pedr_flags_writer.specs.Encoder.{encoderByte}
-use Rattle.pedr_flags.specs.declared.Encoder.{Encoder}
 use Rattle.pedr_arrays.specs.Arrays.{shotClassNumber}
 use Rattle.pedr_arrays.specs.declared.ShotArrays.{ShotArrays}
 use Rattle.pedr_arrays.specs.declared.ChannelArrays.{ChannelArrays}
@@ -88,27 +85,3 @@ linkParts f header =
     ∷ holding columns.packetMillis (f .link .millis)
     ∷ holding columns.fineTime (f .link .«fine_time»)
     ∷ []
-
--- bytes 509 to 776: the uninterpreted bytes on both sides of the encoder bytes
-abbrev pub tailParts : List Encoder → List ℕ → List (List ℕ)
-tailParts es x =
-    take (columns.uninterpreted509 .items) x
-    ∷ holdingAll columns.encoder (map encoderByte es)
-    ∷ drop (columns.uninterpreted509 .items) x
-    ∷ []
-
--- all of them
-abbrev pub recordParts : RecordFields → RecordArrays → List ℕ → List (List ℕ)
-recordParts f a x =
-    headParts f
-    ++ (radiiParts f (a .shots)
-    ++ (pulseParts (a .shots)
-    ++ (groundParts f a
-    ++ (gateParts f (a .channels)
-    ++ (receiverParts f
-    ++ (linkParts f (a .«source_header»)
-    ++ tailParts (a .shots .encoder) x))))))
-
--- the record's 776 bytes
-unfoldable pub recordOf : RecordFields → RecordArrays → List ℕ → List ℕ
-recordOf f a x = join (recordParts f a x)

@@ -26,19 +26,19 @@ ghost use Rattle.pedr_segments.specs.Parts as parts;
 fn put_u8x20(numbers: [u8; SHOTS], i: usize, out: &mut [u8])
     ensures { λ _. ⌜ now (out .exit) ≡ put (now (out .entry)) i (octetsOfAll 1 numbers) ⌝ }
 {
-    octets_writer::write_u8s(&numbers, i, out);
+    octets_runs_writer::write_u8s(&numbers, i, out);
 }
 
 fn put_u16x20(numbers: [u16; SHOTS], i: usize, out: &mut [u8])
     ensures { λ _. ⌜ now (out .exit) ≡ put (now (out .entry)) i (octetsOfAll 2 numbers) ⌝ }
 {
-    octets_writer::write_u16s(&numbers, i, out);
+    octets_runs_writer::write_u16s(&numbers, i, out);
 }
 
 fn put_u32x20(numbers: [u32; SHOTS], i: usize, out: &mut [u8])
     ensures { λ _. ⌜ now (out .exit) ≡ put (now (out .entry)) i (octetsOfAll 4 numbers) ⌝ }
 {
-    octets_writer::write_u32s(&numbers, i, out);
+    octets_runs_writer::write_u32s(&numbers, i, out);
 }
 
 // Bytes 1 to 32: time, position, the range at mid-point, quality.
@@ -115,7 +115,7 @@ pub fn put_ground(fields: RecordFields, arrays: RecordArrays, out: &mut [u8])
     let laser_power = shots.laser_power;
     let classes = shots.class;
     let bits = xyz_bits(xyz);
-    octets_writer::write_u32s(&bits, 324, out);
+    octets_runs_writer::write_u32s(&bits, 324, out);
     octets_writer::write_i32(position.ground_latitude, 336, out);
     octets_writer::write_i32(position.ground_longitude, 340, out);
     put_u16x20(laser_power, LASER_POWER_AT, out);
@@ -128,10 +128,10 @@ pub fn put_gate(fields: RecordFields, noise: [u32; 8], thresholds: [u16; 8], out
     ensures { λ _. ⌜ now (out .exit) ≡ put (now (out .entry)) 424 (join (parts.gateParts fields (record { noise = noise; thresholds = thresholds }))) ⌝ }
 {
     let ranges = fields.ranges;
-    octets_writer::write_u32s(&noise, 424, out);
+    octets_runs_writer::write_u32s(&noise, 424, out);
     octets_writer::write_u32(ranges.delay, 456, out);
     octets_writer::write_u32(ranges.width, 460, out);
-    octets_writer::write_u16s(&thresholds, 464, out);
+    octets_runs_writer::write_u16s(&thresholds, 464, out);
 }
 
 // Bytes 481 to 492: the receiver's numbers, the frame index.
@@ -152,7 +152,7 @@ pub fn put_link(fields: RecordFields, source_header: [u32; 2], out: &mut [u8])
     ensures { λ _. ⌜ now (out .exit) ≡ put (now (out .entry)) 492 (join (parts.linkParts fields «source_header»)) ⌝ }
 {
     let link = fields.link;
-    octets_writer::write_u32s(&source_header, 492, out);
+    octets_runs_writer::write_u32s(&source_header, 492, out);
     octets_writer::write_i32(link.seconds, 500, out);
     octets_writer::write_i16(link.millis, 504, out);
     octets_writer::write_u16(link.fine_time, 506, out);

@@ -1,19 +1,12 @@
-// The refusals of a PEDR record to be written.
+// The refusals of the fields and arrays of a PEDR record to be written.
 use pedr_arrays::RecordArrays;
 use pedr_fields::RecordFields;
-use pedr_layout::RECORD_SIZE;
-use pedr_layout::UNINTERPRETED;
 ghost use mathlib.Core.Path.{_≡_};
-ghost use Rattle.pedr_write_check.specs.Refusal.{writeRefusal};
+ghost use Rattle.pedr_write_check.specs.Refusal.{givenRefusal};
 
-// Refusals 13 to 15, 40, 49 and 41, or 0.
-pub fn write_refusal(
-    fields: RecordFields,
-    arrays: RecordArrays,
-    uninterpreted: &[u8],
-    out: &[u8],
-) -> u8
-    ensures { λ r. ⌜ r ≡ writeRefusal fields arrays (now (uninterpreted .entry)) (now (out .entry)) ⌝ }
+// Refusals 13 to 15, 40 and 49, or 0.
+pub fn given_refusal(fields: RecordFields, arrays: RecordArrays) -> u8
+    ensures { λ r. ⌜ r ≡ givenRefusal fields arrays ⌝ }
 {
     let time = fields.time;
     let position = fields.position;
@@ -41,12 +34,6 @@ pub fn write_refusal(
     let encoders = shots.encoder;
     if !pedr_codes::have_two_bits(encoders) {
         return 49;
-    }
-    if uninterpreted.len() != UNINTERPRETED {
-        return 49;
-    }
-    if out.len() != RECORD_SIZE {
-        return 41;
     }
     0
 }

@@ -7,7 +7,8 @@ use mir.Val.{SFits}
 use Rattle.octets.proofs.Store.{put-length}
 use Rattle.pedr_segments.specs.Parts.{headParts}
 use Rattle.pedr_segments.proofs.Fits.{headColumns, head-fits}
-use Rattle.pedr_segments.proofs.Stores.{signed-stored, quality-stored}
+use Rattle.octets_writer.proofs.Signed.{signed-stored}
+use Rattle.pedr_segments.proofs.Stores.{quality-stored}
 use Rattle.layout.proofs.Store.{Puts, stop, _▸_, puts-join}
 use borrow.Author.Needs.{needs}
 use Rattle.pedr_segments.proofs.put_head.Statement.{statement}

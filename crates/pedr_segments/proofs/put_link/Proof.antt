@@ -6,7 +6,7 @@ use mir.Syntax.{w16, w32}
 use mir.Val.{SFits}
 use Rattle.pedr_segments.specs.Parts.{linkParts}
 use Rattle.pedr_segments.proofs.Fits.{linkColumns, link-fits}
-use Rattle.pedr_segments.proofs.Stores.{signed-stored}
+use Rattle.octets_writer.proofs.Signed.{signed-stored}
 use Rattle.layout.proofs.Store.{Puts, stop, _▸_, puts-join}
 use borrow.Author.Needs.{needs}
 use Rattle.pedr_segments.proofs.put_link.Statement.{statement}

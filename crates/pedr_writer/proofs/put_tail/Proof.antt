@@ -3,8 +3,8 @@ use mathlib.Core.Path.{_≡_, refl, sym, ap, _∙_}
 use denote.Ref.{now}
 use lib.ListN.{length}
 use native.Mathlib.Omega.{arith}
-use Rattle.pedr_segments.specs.Parts.{tailParts}
-use Rattle.pedr_segments.proofs.Fits.{tailColumns, tail-fits}
+use Rattle.pedr_writer.specs.Record.{tailParts}
+use Rattle.pedr_writer.proofs.Fits.{tailColumns, tail-fits}
 use Rattle.pedr_segments.proofs.Stores.{front-copied, rest-copied, run-stored}
 use Rattle.layout.proofs.Store.{Puts, stop, _▸_, puts-join}
 use borrow.Author.Needs.{needs}
@@ -19,10 +19,10 @@ returns : tie.Need-returns
 returns c =
     let s = c .before .before .before .before .before .before .before .before .before .before .before .before .before .before .before .before in
     let x = now (s .args .uninterpreted) in
-    puts-join (tailParts (s .args .encoders) x) tailColumns 508 776 refl (tail-fits (s .args .encoders) x (shots s) (s .pre))
-    (front-copied x _ _ 508 112 (omega (arith, s .pre)) (c .before .before .before .before .before .before .before .before .before .before .before .before .copy-part .ensures)
+    puts-join (tailParts (s .args .encoders) x) tailColumns 536 776 refl (tail-fits (s .args .encoders) x (shots s) (s .pre))
+    (front-copied x _ _ 536 84 (omega (arith, s .pre)) (c .before .before .before .before .before .before .before .before .before .before .before .before .copy-part .ensures)
     ▸ run-stored 1 _ _ _ _ _ (c .before .before .before .before .before .before .before .before .before .encoder-bytes .ensures) (c .before .before .before .before .before .before .write-u8s .ensures)
-    ▸ rest-copied x _ _ 640 112 136 (sym (s .pre)) (c .before .before .copy-part2 .ensures)
+    ▸ rest-copied x _ _ 640 84 136 (sym (s .pre)) (c .before .before .copy-part2 .ensures)
     ▸ stop)
 
 pub put-tail-spec : {M : Type 1} → statement M

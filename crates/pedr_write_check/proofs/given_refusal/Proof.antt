@@ -12,9 +12,9 @@ use Rattle.octets.specs.Table.{each}
 use Rattle.octets.proofs.Ladder.{pass, fail, rungs}
 use Rattle.pedr_check.specs.Refusal.{valuesRefusal}
 use Rattle.pedr_codes.specs.Codes.{isProperShot, hasTwoBits}
-use Rattle.pedr_write_check.specs.Refusal.{writeRefusal}
-use Rattle.pedr_write_check.proofs.write_refusal.Statement.{statement}
-use Rattle.pedr_write_check.proofs.write_refusal.Tie as tie
+use Rattle.pedr_write_check.specs.Refusal.{givenRefusal}
+use Rattle.pedr_write_check.proofs.given_refusal.Statement.{statement}
+use Rattle.pedr_write_check.proofs.given_refusal.Tie as tie
 
 -- the two signed fields, by their types
 fit : (s : tie.Start) → SFits w32 (s .args .fields .time .micros) × SFits w32 (s .args .fields .position .latitude)
@@ -22,7 +22,7 @@ fit s = (search needs, search needs)
 
 -- the values' own ladder
 abbrev start : tie.After-values-refusal → tie.Start
-start c = c .before .before .before .before .before .before .before .before
+start c = c .before .before .before .before .before .before
 
 values : (c : tie.After-values-refusal)
     → c .values-refusal .result ≡ valuesRefusal (start c .args .fields .time .micros) (start c .args .fields .position .latitude) (start c .args .fields .receiver .«frame_index»)
@@ -31,7 +31,7 @@ values c =
     c .values-refusal .ensures ∙ (λ i. valuesRefusal (toZ-ofZ w32 _ (f .0) i) (toZ-ofZ w32 _ (f .1) i) (start c .args .fields .receiver .«frame_index»))
 
 returns : tie.Need-returns
-unfolding writeRefusal
+unfolding givenRefusal
 returns c = let v = values (c .before) in search rungs depth 10
 
 -- past the first test the values are not refused
@@ -48,35 +48,35 @@ two-bits : (c : tie.Else6) → each hasTwoBits (start (c .before .before .before
 two-bits c = sym (c .before .have-two-bits .ensures) ∙ not-false _ (c .if6 .left)
 
 returns-2 : tie.Need-returns-2
-unfolding writeRefusal
+unfolding givenRefusal
 returns-2 c =
     let v = valued (c .before .before .before .before) in
     let n = sym (c .before .are-proper .ensures) ∙ not-true _ (c .if2 .taken) in
     search (fail, rungs) depth 15
 
 returns-3 : tie.Need-returns-3
-unfolding writeRefusal
+unfolding givenRefusal
 returns-3 c =
     let v = valued (c .before .before .before .before .before .before .before) in
     let p = proper (c .before .before .before) in
     search (pass, rungs) depth 15
 
 returns-4 : tie.Need-returns-4
-unfolding writeRefusal
+unfolding givenRefusal
 returns-4 c =
     let v = valued (c .before .before .before .before .before .before .before .before .before) in
     let p = proper (c .before .before .before .before .before) in
     search (pass, rungs) depth 15
 
 returns-5 : tie.Need-returns-5
-unfolding writeRefusal
+unfolding givenRefusal
 returns-5 c =
     let v = valued (c .before .before .before .before .before .before .before .before .before .before .before .before) in
     let p = proper (c .before .before .before .before .before .before .before .before) in
     search (pass, rungs) depth 15
 
 returns-6 : tie.Need-returns-6
-unfolding writeRefusal
+unfolding givenRefusal
 returns-6 c =
     let v = valued (c .before .before .before .before .before .before .before .before .before .before .before .before .before .before .before) in
     let p = proper (c .before .before .before .before .before .before .before .before .before .before .before) in
@@ -84,31 +84,15 @@ returns-6 c =
     search (pass, fail, rungs) depth 15
 
 returns-7 : tie.Need-returns-7
-unfolding writeRefusal
+unfolding givenRefusal
 returns-7 c =
-    let v = valued (c .before .before .before .before .before .before .before .before .before .before .before .before .before .before .before .before) in
-    let p = proper (c .before .before .before .before .before .before .before .before .before .before .before .before) in
-    let t = two-bits (c .before) in
+    let v = valued (c .before .before .before .before .before .before .before .before .before .before .before .before .before .before .before) in
+    let p = proper (c .before .before .before .before .before .before .before .before .before .before .before) in
+    let t = two-bits c in
     search (pass, rungs) depth 15
 
-returns-8 : tie.Need-returns-8
-unfolding writeRefusal
-returns-8 c =
-    let v = valued (c .before .before .before .before .before .before .before .before .before .before .before .before .before .before .before .before .before) in
-    let p = proper (c .before .before .before .before .before .before .before .before .before .before .before .before .before) in
-    let t = two-bits (c .before .before) in
-    search (pass, rungs) depth 15
-
-returns-9 : tie.Need-returns-9
-unfolding writeRefusal
-returns-9 c =
-    let v = valued (c .before .before .before .before .before .before .before .before .before .before .before .before .before .before .before .before .before) in
-    let p = proper (c .before .before .before .before .before .before .before .before .before .before .before .before .before) in
-    let t = two-bits (c .before .before) in
-    search (pass, rungs) depth 15
-
-pub write-refusal-spec : {M : Type 1} → statement M
-write-refusal-spec =
+pub given-refusal-spec : {M : Type 1} → statement M
+given-refusal-spec =
     tie.close
     (tie.spec
     (λ c κs. search needs)
@@ -120,6 +104,4 @@ write-refusal-spec =
     returns-5
     (λ c κs. search needs)
     returns-6
-    returns-7
-    returns-8
-    returns-9)
+    returns-7)
