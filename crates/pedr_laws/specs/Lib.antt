@@ -1,2 +1,3 @@
 pub mod Shots
 pub mod Flags
+pub mod Frame

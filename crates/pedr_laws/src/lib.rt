@@ -1,4 +1,7 @@
-// The PEDR record's theorems: the shot entry agrees with the reader, and flags and codes lose no bit.
+// The PEDR record's theorems: the shot entry agrees with the reader, flags and codes lose no bit, and a block is of its frame index.
+use pedr::RecordAnswer;
+ghost use mathlib.Core.Path.{_≡_};
+ghost use Rattle.pedr_laws.specs.Frame.{frameRead};
 ghost use Rattle.pedr_laws.specs.Shots.{ShotsAgree};
 ghost use Rattle.pedr_laws.specs.Flags.{FlagsKept};
 
@@ -11,3 +14,15 @@ pub fn shots_agree()
 pub fn flags_kept()
     ensures { λ _. ⌜ FlagsKept ⌝ }
 {}
+
+// The frame of the block that is read of any bytes: an accepted record's frame index, or 0.
+pub fn frame_read(bytes: &[u8]) -> u16
+    ensures { λ r. ⌜ r ≡ frameRead (now (bytes .entry)) ⌝ }
+{
+    let read = pedr::read_record(bytes);
+    let answer = read.answer;
+    let RecordAnswer::Accepted(_, block) = answer else {
+        return 0;
+    };
+    pedr_block::frame_number(block)
+}

@@ -39,12 +39,22 @@ use Rattle.pedr_fields.specs.Fields.{timeOf, positionOf, pointingOf, rangesOf, 
 use Rattle.pedr_fields.specs.declared.RecordFields.{RecordFields}
 use Rattle.pedr_check.specs.Refusal.{valuesRefusal, recordRefusal}
 use Rattle.pedr_codes.specs.Codes.{isProper, isProperShot, hasTwoBits}
-use Rattle.pedr_write_check.specs.Refusal.{writeRefusal}
-use Rattle.pedr_write_check.proofs.Accept.{Proper, writable}
-use Rattle.pedr.specs.Read.{readDue, readArrays, readUninterpreted}
+use Rattle.pedr_block.specs.Block.{blockOf}
+use Rattle.pedr_block.specs.declared.Block.{Block}
+use Rattle.pedr_block_runs.specs.Runs.{runsOf, noRuns}
+use Rattle.pedr_block_runs.specs.Carried.{carriedOf, noCarried}
+use Rattle.pedr_block_runs.specs.declared.BlockRuns.{BlockRuns}
+use Rattle.pedr_block_round_trip.specs.Kept.{keptRuns, keptCarried, TypedBlock}
+use Rattle.pedr_block_round_trip.proofs.ReadAs.{ReadAs}
+use Rattle.pedr_block_round_trip.proofs.ReadBack.{typed-length, block-read}
+use Rattle.pedr_write_check.proofs.Accept.{Proper}
+use Rattle.pedr_write_refusal.specs.Refusal.{writeRefusal}
+use Rattle.pedr_write_refusal.proofs.Accept.{Writable, writable}
+use Rattle.pedr.specs.Read.{readDue, readArrays, readRuns, readCarried, readUninterpreted}
 use Rattle.pedr_arrays.specs.Arrays.{shotClassNumber}
-use Rattle.pedr_segments.specs.Parts.{recordParts, recordOf}
-use Rattle.pedr_segments.proofs.Fits.{Sizes, record-fits}
+use Rattle.pedr_segments.proofs.Fits.{Sizes}
+use Rattle.pedr_writer.specs.Record.{recordParts, recordOf}
+use Rattle.pedr_writer.proofs.Fits.{record-fits}
 use Rattle.pedr_writer.proofs.Whole.{record-length}
 use Rattle.pedr_round_trip.specs.Typed.{TypedFields, TypedArrays}
 use Rattle.pedr_round_trip.specs.RoundTrip.{counted, ReadsBack}
@@ -92,22 +102,26 @@ encoder-of e h =
     let r = both _ _ (b .1) in
     encoder-parts e (ltb-true _ _ (l .0)) (ltb-true _ _ (l .1)) (ltb-true _ _ (r .0)) (ltb-true _ _ (r .1))
 
-module _ (f : RecordFields) (a : RecordArrays) (x out : List ℕ) (t : TypedFields f) (u : TypedArrays a) (ok : writeRefusal f a x out ≡ 0) where
-  m : Proper f a x
-  m = writable f a x out ok .0
+module _ (f : RecordFields) (b : Block) (a : RecordArrays) (r : BlockRuns) (c x out : List ℕ)
+    (t : TypedFields f) (v : TypedBlock b r c) (u : TypedArrays a) (ok : writeRefusal f b a c x out ≡ 0) where
+  w : Writable f b a c x
+  w = writable f b a c x out ok .0
+
+  m : Proper f a
+  m = w .given
 
   s : List ℕ
-  s = recordOf f a x
+  s = recordOf f b a r c x
 
   size : length s ≡ 776
   unfolding s
-  size = record-length f a x (sizes-of a u) (m .bytes)
+  size = record-length f b a r c x (sizes-of a u) (typed-length b r c v) (w .bytes)
 
-  cuts : cut s columns.recordColumns ≡ recordParts f a x
+  cuts : cut s columns.recordColumns ≡ recordParts f b a r c x
   unfolding s recordOf
-  cuts = cut-join (recordParts f a x) columns.recordColumns 776 refl (record-fits f a x (sizes-of a u) (m .bytes))
+  cuts = cut-join (recordParts f b a r c x) columns.recordColumns 776 refl (record-fits f b a r c x (sizes-of a u) (typed-length b r c v) (w .bytes))
 
-  col : (k : ℕ) → getD (cut s columns.recordColumns) k [] ≡ getD (recordParts f a x) k []
+  col : (k : ℕ) → getD (cut s columns.recordColumns) k [] ≡ getD (recordParts f b a r c x) k []
   col k = ap (λ (ps : List (List ℕ)). getD ps k []) cuts
 
   -- a column of one number, and a column of several
@@ -218,7 +232,7 @@ module _ (f : RecordFields) (a : RecordArrays) (x out : List ℕ) (t : TypedFiel
       let d = encoderOf 0 in
       let l = u .shots .encoder in
       let bytes : natsAt s 620 1 20 ≡ map encoderByte es =
-      several unsigned 620 1 20 (map encoderByte es) (omega arith) (omega arith) (length-map es encoderByte ∙ l) (byte-lt es) (col 39) in
+      several unsigned 620 1 20 (map encoderByte es) (omega arith) (omega arith) (length-map es encoderByte ∙ l) (byte-lt es) (col 40) in
       table-below 20 (λ k. encoderOf (item s columns.encoder k)) (λ k. getD es k d)
       (λ k h. ap encoderOf (item-is 620 1 k (map encoderByte es) bytes h ∙ List·getD-map encoderByte es k d)
       ∙ encoder-of (getD es k d) (each-at hasTwoBits es k d (m .encoders) (rw l h)))
@@ -268,8 +282,15 @@ module _ (f : RecordFields) (a : RecordArrays) (x out : List ℕ) (t : TypedFiel
   uninterpreted-are : uninterpretedOf s ≡ x
   unfolding uninterpretedOf
   uninterpreted-are =
-      ap₂ (λ (p q : List ℕ). p ++ q) (octets-part s 508 112 (rw size (omega arith)) ∙ col 38) (octets-part s 640 136 (rw size (omega arith)) ∙ col 40)
-      ∙ take-append-drop 112 x
+      ap₂ (λ (p q : List ℕ). p ++ q) (octets-part s 536 84 (rw size (omega arith)) ∙ col 39) (octets-part s 640 136 (rw size (omega arith)) ∙ col 41)
+      ∙ take-append-drop 84 x
+
+  index-is : natAt s 490 2 ≡ f .receiver .«frame_index»
+  index-is = one unsigned 490 2 (f .receiver .«frame_index») (omega arith) (t .frame-index) (col 33)
+
+  -- the block by its frame
+  block-is : ReadAs s b (keptRuns b r) (keptCarried c)
+  block-is = block-read s b r c v (w .carried) (col 38) (rw size (omega arith)) (index-is ∙ sym (w .frame))
 
   not-refused : 0 ≡ recordRefusal s
   unfolding recordRefusal
@@ -277,17 +298,22 @@ module _ (f : RecordFields) (a : RecordArrays) (x out : List ℕ) (t : TypedFiel
       let c : goodCount (natAt s 28 3) ≡ natAt s 31 1 = sym (count-low (natAt s 28 3)) ∙ ap goodCount good-is ∙ sym counter-is in
       let micros = one complement 4 4 (f .time .micros) (omega arith) (t .micros) (col 1) in
       let lat = one complement 12 4 (f .position .latitude) (omega arith) (t .latitude) (col 3) in
-      let index = one unsigned 490 2 (f .receiver .«frame_index») (omega arith) (t .frame-index) (col 33) in
+      let index = index-is in
       pass-eq _ _ 11 _ 0 size (pass-eq _ _ 12 _ 0 c (sym ((λ i. valuesRefusal (micros i) (lat i) (index i)) ∙ m .values)))
 
-  read-again : (readDue s ≡ answered (counted f)) × (readArrays s ≡ a) × (readUninterpreted s ≡ x)
+  read-again : (readDue s ≡ answered (counted f, b)) × (readArrays s ≡ a) × (readRuns s ≡ keptRuns b r) × (readCarried s ≡ keptCarried c)
+      × (readUninterpreted s ≡ x)
   read-again =
-      let z = sym not-refused in (
-        sym (say-answered _ (fieldsOf s) (counted f) z (sym fields-are)),
+      let z = sym not-refused in
+      let e = sym fields-are in
+      let q = sym (block-is .block) in (
+        sym (say-answered _ (fieldsOf s, blockOf s) (counted f, b) z (λ i. (e i, q i))),
         sym (after-done _ (arraysOf s) noArrays a z (sym arrays-are)),
+        sym (after-done _ (runsOf s) noRuns (keptRuns b r) z (sym (block-is .runs))),
+        sym (after-done _ (carriedOf s) noCarried (keptCarried c) z (sym (block-is .carried))),
         sym (after-done _ (uninterpretedOf s) noUninterpreted x z (sym uninterpreted-are)),
       )
 
 pub read-back : ReadsBack
 unfolding s
-read-back f a x out t u ok = read-again f a x out t u ok
+read-back f b a r c x out t v u ok = read-again f b a r c x out t v u ok

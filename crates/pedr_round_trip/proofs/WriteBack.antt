@@ -5,7 +5,7 @@ use mathlib.Core.Bool.{Bool, true, _&&_}
 use mathlib.Core.List.{List, [], _∷_, _++_, map}
 use native.Mathlib.Nat.{mod-lt}
 use native.Mathlib.Omega.{arith}
-use borrow.Author.Tests.{eqb-true, lt-ltb, ne-eqb}
+use borrow.Author.Tests.{lt-ltb}
 use lib.Dec.{eqb, ltb}
 use lib.ListN.{length, take, drop, length-append}
 use lib.Seq.{take-at, drop-at}
@@ -15,7 +15,7 @@ use Rattle.octets.proofs.Codec.{octets-part}
 use Rattle.octets.proofs.Each.{each-table}
 use Rattle.octets.proofs.Fill.{map-table, table-same, octets-count}
 use Rattle.octets.specs.Refusal.{after}
-use Rattle.octets.proofs.Ladder.{passed, pass-eq, then-fail, then-pass}
+use Rattle.octets.proofs.Ladder.{pass-eq, then-fail, then-pass}
 use Rattle.octets.proofs.Read.{nat-lt}
 use Rattle.layout.specs.Column.{Sign, unsigned, complement, value, item, values, numberAt, numbersAt, numberOctets, numbersOctets, holding, holdingAll, cut, join}
 use Rattle.layout.proofs.Cover.{join-cut}
@@ -33,27 +33,21 @@ use Rattle.pedr_flags_writer.proofs.DescriptorRead.{descriptor-whole}
 use Rattle.pedr_arrays.specs.Arrays.{shotClass, classesOf, encodersOf, shotArraysOf, channelArraysOf, arraysOf}
 use Rattle.pedr_arrays.specs.Uninterpreted.{uninterpretedOf}
 use Rattle.pedr_fields.specs.Fields.{timeOf, positionOf, pointingOf, rangesOf, receiverOf, linkOf, fieldsOf}
-use Rattle.pedr_check.specs.Refusal.{valuesRefusal, recordRefusal}
+use Rattle.pedr_check.specs.Refusal.{recordRefusal}
+use Rattle.pedr_check.proofs.Accept.{Accepted, accepted}
 use Rattle.pedr_codes.specs.Codes.{isProperShot, hasTwoBits}
 use Rattle.pedr_codes.proofs.Proper.{class-proper}
-use Rattle.pedr_write_check.specs.Refusal.{writeRefusal}
-use Rattle.pedr_write_check.proofs.Accept.{Proper, room-decides}
+use Rattle.pedr_block.specs.Block.{blockOf}
+use Rattle.pedr_block.proofs.Frame.{case-is-index}
+use Rattle.pedr_block_runs.specs.Runs.{runsOf}
+use Rattle.pedr_block_round_trip.specs.Kept.{ownCarried}
+use Rattle.pedr_block_round_trip.proofs.WriteBack.{block-back, own-length}
+use Rattle.pedr_write_check.proofs.Accept.{Proper}
+use Rattle.pedr_write_refusal.specs.Refusal.{writeRefusal}
+use Rattle.pedr_write_refusal.proofs.Accept.{Writable, room-decides}
 use Rattle.pedr_arrays.specs.Arrays.{shotClassNumber}
-use Rattle.pedr_segments.specs.Parts.{recordParts, recordOf}
+use Rattle.pedr_writer.specs.Record.{recordParts, recordOf}
 use Rattle.pedr_round_trip.specs.RoundTrip.{WritesBack, copyRefusal}
-
--- what an accepted record meets
-pub record Accepted (s : List ℕ) : Type 0 where
-  pub size : length s ≡ 776
-  pub counter : goodCount (value s columns.qualityNumber) ≡ value s columns.qualityCounter
-  pub values : valuesRefusal (value s columns.timeMicros) (value s columns.latitude) (value s columns.frameIndex) ≡ 0
-
-pub accepted : (s : List ℕ) → recordRefusal s ≡ 0 → Accepted s
-unfolding recordRefusal
-accepted s e =
-    let c1 = passed _ 10 _ e in
-    let c2 = passed _ 11 _ (c1 .1) in
-    record { size = eqb-true _ _ (c1 .0); counter = eqb-true _ _ (c2 .0); values = c2 .1 }
 
 module _ (s : List ℕ) (o : Octets s) (z : recordRefusal s ≡ 0) where
   a : Accepted s
@@ -87,17 +81,17 @@ module _ (s : List ℕ) (o : Octets s) (z : recordRefusal s ≡ 0) where
       ∙ table-same 20 (λ k. encoderByte (encoderOf (item s columns.encoder k))) (λ k. natAt s (620 + 1 * k) 1)
       (λ k. encoder-whole (item s columns.encoder k) (o (620 + 1 * k)))
 
-  front-is : take 112 (uninterpretedOf s) ≡ part s 508 112
+  front-is : take 84 (uninterpretedOf s) ≡ part s 536 84
   unfolding uninterpretedOf
   front-is =
-      take-at (octetsAt s 508 112) (octetsAt s 640 136) 112 (octets-count s 508 112) ∙ octets-part s 508 112 (rw (a .size) (omega arith))
+      take-at (octetsAt s 536 84) (octetsAt s 640 136) 84 (octets-count s 536 84) ∙ octets-part s 536 84 (rw (a .size) (omega arith))
 
-  rest-is : drop 112 (uninterpretedOf s) ≡ part s 640 136
+  rest-is : drop 84 (uninterpretedOf s) ≡ part s 640 136
   unfolding uninterpretedOf
   rest-is =
-      drop-at (octetsAt s 508 112) (octetsAt s 640 136) 112 (octets-count s 508 112) ∙ octets-part s 640 136 (rw (a .size) (omega arith))
+      drop-at (octetsAt s 536 84) (octetsAt s 640 136) 84 (octets-count s 536 84) ∙ octets-part s 640 136 (rw (a .size) (omega arith))
 
-  parts-are : recordParts (fieldsOf s) (arraysOf s) (uninterpretedOf s) ≡ cut s columns.recordColumns
+  parts-are : recordParts (fieldsOf s) (blockOf s) (arraysOf s) (runsOf s) (ownCarried s) (uninterpretedOf s) ≡ cut s columns.recordColumns
   unfolding fieldsOf timeOf positionOf pointingOf rangesOf receiverOf linkOf arraysOf shotArraysOf channelArraysOf intsAt
   parts-are =
       let p0 = one complement 0 4 (omega arith) (omega arith) in
@@ -138,16 +132,17 @@ module _ (s : List ℕ) (o : Octets s) (z : recordRefusal s ≡ 0) where
       let p35 = one complement 500 4 (omega arith) (omega arith) in
       let p36 = one complement 504 2 (omega arith) (omega arith) in
       let p37 = one unsigned 506 2 (omega arith) (omega arith) in
-      let p38 = front-is in
-      let p39 = ap (octetsOfAll 1) encoders-are ∙ several unsigned 620 1 20 (omega arith) (omega arith) in
-      let p40 = rest-is in
+      let p38 = block-back s (a .index .0) (a .index .1) o (rw (a .size) (omega arith)) in
+      let p39 = front-is in
+      let p40 = ap (octetsOfAll 1) encoders-are ∙ several unsigned 620 1 20 (omega arith) (omega arith) in
+      let p41 = rest-is in
       λ i. p0 i ∷ p1 i ∷ p2 i ∷ p3 i ∷ p4 i ∷ p5 i ∷ p6 i ∷ p7 i ∷ p8 i ∷ p9 i ∷ p10 i ∷ p11 i
       ∷ p12 i ∷ p13 i ∷ p14 i ∷ p15 i ∷ p16 i ∷ p17 i ∷ p18 i ∷ p19 i ∷ p20 i ∷ p21 i ∷ p22 i ∷ p23 i
       ∷ p24 i ∷ p25 i ∷ p26 i ∷ p27 i ∷ p28 i ∷ p29 i ∷ p30 i ∷ p31 i ∷ p32 i ∷ p33 i ∷ p34 i ∷ p35 i
-      ∷ p36 i ∷ p37 i ∷ p38 i ∷ p39 i ∷ p40 i ∷ []
+      ∷ p36 i ∷ p37 i ∷ p38 i ∷ p39 i ∷ p40 i ∷ p41 i ∷ []
 
   -- the record's bytes
-  bytes-are : recordOf (fieldsOf s) (arraysOf s) (uninterpretedOf s) ≡ s
+  bytes-are : recordOf (fieldsOf s) (blockOf s) (arraysOf s) (runsOf s) (ownCarried s) (uninterpretedOf s) ≡ s
   unfolding recordOf
   bytes-are = ap join parts-are ∙ join-cut s columns.recordColumns 0 776 refl (sym (a .size))
 
@@ -165,13 +160,13 @@ module _ (s : List ℕ) (o : Octets s) (z : recordRefusal s ≡ 0) where
       fits : (b : ℕ) → hasTwoBits (encoderOf b) ≡ true
       fits b = ap₂ (λ (x y : Bool). x && y) (ap₂ (λ (x y : Bool). x && y) (below b) (below (b / 4))) (ap₂ (λ (x y : Bool). x && y) (below (b / 16)) (below (b / 64)))
 
-  uninterpreted-length : length (uninterpretedOf s) ≡ 248
+  uninterpreted-length : length (uninterpretedOf s) ≡ 220
   unfolding uninterpretedOf
-  uninterpreted-length = length-append (octetsAt s 508 112) (octetsAt s 640 136) ∙ omega (arith, octets-count s 508 112, octets-count s 640 136)
+  uninterpreted-length = length-append (octetsAt s 536 84) (octetsAt s 640 136) ∙ omega (arith, octets-count s 536 84, octets-count s 640 136)
 
-  may-write : Proper (fieldsOf s) (arraysOf s) (uninterpretedOf s)
+  given-proper : Proper (fieldsOf s) (arraysOf s)
   unfolding fieldsOf timeOf positionOf receiverOf qualityOf descriptorOf arraysOf shotArraysOf
-  may-write =
+  given-proper =
       let q = nat-lt s 28 3 o in
       let d = nat-lt s 32 3 o in record {
         values = a .values;
@@ -180,23 +175,33 @@ module _ (s : List ℕ) (o : Octets s) (z : recordRefusal s ≡ 0) where
         quality-carried = omega arith;
         descriptor-carried = omega arith;
         encoders = two-bits;
+      }
+
+  may-write : Writable (fieldsOf s) (blockOf s) (arraysOf s) (ownCarried s) (uninterpretedOf s)
+  unfolding fieldsOf receiverOf
+  may-write =
+      record {
+        given = given-proper;
+        carried = own-length s (a .index .0) (a .index .1);
         bytes = uninterpreted-length;
+        frame = case-is-index s (a .index .0) (a .index .1);
       }
 
   -- the writer refuses only the output
-  pub copy-number : (out : List ℕ) → writeRefusal (fieldsOf s) (arraysOf s) (uninterpretedOf s) out ≡ copyRefusal s out
+  pub copy-number : (out : List ℕ) → writeRefusal (fieldsOf s) (blockOf s) (arraysOf s) (ownCarried s) (uninterpretedOf s) out ≡ copyRefusal s out
   unfolding copyRefusal
-  copy-number out = sym (room-decides (fieldsOf s) (arraysOf s) (uninterpretedOf s) out may-write) ∙ then-pass (recordRefusal s) _ _ z refl
+  copy-number out = sym (room-decides (fieldsOf s) (blockOf s) (arraysOf s) (ownCarried s) (uninterpretedOf s) out may-write) ∙ then-pass (recordRefusal s) _ _ z refl
 
   -- and what it writes is the record
   pub copy-bytes : (out : List ℕ)
-      → after (writeRefusal (fieldsOf s) (arraysOf s) (uninterpretedOf s) out) (recordOf (fieldsOf s) (arraysOf s) (uninterpretedOf s)) out
+      → after (writeRefusal (fieldsOf s) (blockOf s) (arraysOf s) (ownCarried s) (uninterpretedOf s) out)
+      (recordOf (fieldsOf s) (blockOf s) (arraysOf s) (runsOf s) (ownCarried s) (uninterpretedOf s)) out
       ≡ after (copyRefusal s out) s out
   copy-bytes out = λ i. after (copy-number out i) (bytes-are i) out
 
 pub write-back : WritesBack
 write-back s out o z room =
-    (sym (pass-eq _ _ 41 0 0 room refl ∙ room-decides (fieldsOf s) (arraysOf s) (uninterpretedOf s) out (may-write s o z)), bytes-are s o z)
+    (sym (pass-eq _ _ 41 0 0 room refl ∙ room-decides (fieldsOf s) (blockOf s) (arraysOf s) (ownCarried s) (uninterpretedOf s) out (may-write s o z)), bytes-are s o z)
 
 -- a record that the reader refuses
 pub copy-refused : (s out : List ℕ) (n : ℕ) → n ≡ recordRefusal s → (n ≡ 0 → ⊥) → n ≡ copyRefusal s out

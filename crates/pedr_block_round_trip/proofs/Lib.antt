@@ -1,0 +1,4 @@
+pub mod ReadAs
+pub mod WriteBack
+pub mod ReadBack
+pub mod Typed
