@@ -28,7 +28,8 @@
  *   14 latitude beyond 90,000,000 either way        31 budget over 32
  *   15 frame index not 1 to 7                       40 (a class given as unassigned with number 0 or 1: only in Rattle)
  *   16 shot not 1 to 20                             41 output not 776 bytes
- *                                                   49 bits given over their width, or uninterpreted bytes not 248
+ *                                                   42 block and frame index disagree
+ *   49 bits given over their width, carried block bytes not as many as the block's layout leaves, or uninterpreted bytes not 220
  */
 #ifndef MOLA_H
 #define MOLA_H
@@ -45,7 +46,8 @@ extern "C" {
 #define MOLA_CARRIED_SIZE 974        /* its carried bytes */
 #define MOLA_CARRIED_AT 106          /* where they start in the packet, counted from 0 */
 #define MOLA_RECORD_SIZE 776         /* a PEDR record */
-#define MOLA_UNINTERPRETED_SIZE 248  /* its uninterpreted bytes: record bytes 509 to 620 and then 641 to 776, counted from 1 */
+#define MOLA_BLOCK_CARRIED_SIZE 10   /* the most carried bytes of its engineering block: frame 3 has 2, frame 5 has 4, frame 7 has 10, others none */
+#define MOLA_UNINTERPRETED_SIZE 220  /* its uninterpreted bytes: record bytes 537 to 620 and then 641 to 776, counted from 1 */
 #define MOLA_STORE_SIZE 34560        /* the store of a reorder buffer, and a drain's output: 32 packets */
 #define MOLA_SUM_WORD 70             /* the published place of a science packet's sum, a word number */
 
@@ -199,11 +201,102 @@ struct mola_record_arrays {
     uint32_t source_header[2];
 };
 
+/* The engineering block of a record is record bytes 509 to 536, counted from 1. Each frame has a layout of its own, PEDRENG1.FMT to PEDRENG7.FMT: its
+ * columns that are single numbers, by their names. Frame 4 has none. */
+struct mola_frame_1 {
+    int16_t computer_memory_temperature;
+    int16_t computer_cpu_temperature;
+    int16_t power_supply_temperature;
+    int16_t computer_io_temperature;
+    int16_t laser_diode_array_temperature;
+    int16_t laser_diode_drive_elecs_temp;
+    int16_t optical_test_source_led_temp;
+    int16_t hundred_mhz_oscillator_temp;
+    int16_t start_detector_temperature;
+    int16_t outside_detector_housing_temp;
+    int16_t lasr_radiatr_opp_opt_port_temp;
+    int16_t lser_radiator_output_port_temp;
+    int16_t interface_plate_hot_foot_temp;
+    int16_t honeycomb_panel_temperature;
+};
+
+struct mola_frame_2 {
+    int16_t electronics_box_top_sc_thrmstr;
+    int16_t laser_case_hot_foot_temp;
+    uint16_t plus_28_volt_voltage_monitor;
+    uint16_t reference_voltage_monitor;
+    uint16_t plus_12_volt_voltage_monitor;
+    uint16_t plus_24_volt_voltage_monitor;
+    uint16_t plus_5_volt_voltage_monitor;
+    uint16_t minus_12_volt_voltage_monitor;
+    uint16_t laser_thermal_current_monitor;
+    uint16_t minus_5_volt_voltage_monitor;
+    uint16_t power_supply_current_monitor;
+    uint16_t high_voltage_monitor;
+    uint16_t minus_12_volt_current_monitor;
+    uint16_t plus_12_volt_current_monitor;
+};
+
+struct mola_frame_3 {
+    uint16_t minus_5_volt_current_monitor;
+    uint16_t plus_5_volt_current_monitor;
+    uint8_t current_status_register_value;
+    uint8_t software_version_number;
+    uint16_t flag_word;
+    uint16_t software_validity_checksum;
+    uint8_t received_command_count;
+    uint8_t command_error_count;
+    uint8_t transmitter_threshold_setting;
+    uint8_t range_tracking_status;
+};
+
+struct mola_frame_5 {
+    uint32_t hstart_value_histogram_dump;
+    uint16_t valid_commands_received_count;
+};
+
+struct mola_frame_6 {
+    uint16_t packet_validity_checksum;
+};
+
+struct mola_frame_7 {
+    uint32_t ots_range;
+    uint32_t first_ch_received_energy;
+    uint32_t ots_transmit_power;
+    uint8_t ots_pulse_width;
+    uint8_t ots_pulse_amplitude;
+    uint8_t ots_qual_flag;
+    uint8_t packet_type;
+    uint16_t areocentric_longitude_of_sun;
+};
+
+/* A block's frame and its numbers. The structures of other frames are zeros in what is read, and ignored by the writer. */
+struct mola_block {
+    uint32_t frame;             /* 1 to 7, or 0 in a refused read; a number not 1 to 7 has no carried bytes and agrees with no frame index */
+    struct mola_frame_1 frame_1;
+    struct mola_frame_2 frame_2;
+    struct mola_frame_3 frame_3;
+    struct mola_frame_5 frame_5;
+    struct mola_frame_6 frame_6;
+    struct mola_frame_7 frame_7;
+};
+
+/* The block's columns of several numbers, a frame's own first. What the frame lacks is zeros in what is read, and ignored by the writer. */
+struct mola_block_runs {
+    uint16_t status_flags[2];               /* frame 3 */
+    uint16_t range_gate_tracker_array[14];  /* 4 in frame 3, 14 in frame 4, 6 in frame 5 */
+    uint16_t memory_dump_segment[5];        /* 3 in frame 5, 5 in frame 6 */
+    uint16_t command_echo[8];               /* frame 6 */
+};
+
 /* A record's refusal number and zeros, or 0 and what the record holds. */
 struct mola_record {
     uint32_t refusal;
     struct mola_record_fields fields;
+    struct mola_block block;                /* of the frame index */
     struct mola_record_arrays arrays;
+    struct mola_block_runs runs;
+    uint8_t carried[MOLA_BLOCK_CARRIED_SIZE];   /* the bytes of the block that its layout does not name, in the record's order, then zeros */
     uint8_t uninterpreted[MOLA_UNINTERPRETED_SIZE];
 };
 
@@ -292,10 +385,11 @@ struct mola_record mola_read_record(const uint8_t *record, size_t record_len);
 /* One shot of a record, 1 to 20. Gives 11 to 16. */
 struct mola_shot_read mola_read_shot(const uint8_t *record, size_t record_len, size_t shot);
 
-/* Writes a record of these fields, arrays and uninterpreted bytes into out, with its counter worked out. The widths of 49: good 20 bits, quality's
- * carried 4, descriptor's carried 24, each part of an encoder 2. Gives 13, 14, 15, 49, 41, or 0. */
-uint8_t mola_write_record(struct mola_record_fields fields, struct mola_record_arrays arrays, const uint8_t *uninterpreted,
-    size_t uninterpreted_len, uint8_t *out, size_t out_len);
+/* Writes a record of these fields, block, arrays, runs, carried block bytes and uninterpreted bytes into out, with its counter worked out. The widths
+ * of 49: good 20 bits, quality's carried 4, descriptor's carried 24, each part of an encoder 2. The number of carried block bytes is that of
+ * block.frame, also where the frame index is another. Gives 13, 14, 15, 49, 41, 42, or 0. */
+uint8_t mola_write_record(struct mola_record_fields fields, struct mola_block block, struct mola_record_arrays arrays, struct mola_block_runs runs,
+    const uint8_t *carried, size_t carried_len, const uint8_t *uninterpreted, size_t uninterpreted_len, uint8_t *out, size_t out_len);
 
 /* ---- the reorder buffer, over one session that is lent to each call and updated there
  *

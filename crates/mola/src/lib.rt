@@ -6,6 +6,8 @@ use packet_layout::BINS;
 use packet_layout::READINGS;
 use packet_layout::TEMPERATURES;
 use packet_writer::PacketWritten;
+use pedr_block_c::BlockNumbers;
+use pedr_block_runs::BlockRuns;
 use pedr_c::ArrayNumbers;
 use pedr_c::RecordNumbers;
 use pedr_fields::RecordFields;
@@ -27,7 +29,8 @@ ghost use Rattle.pedr_shot.specs.Shot.{shotDue};
 ghost use Rattle.pedr_c.specs.Numbers.{recordNumbers};
 ghost use Rattle.pedr_c.specs.Back.{arraysOfNumbers};
 ghost use Rattle.pedr_shot_c.specs.Shot.{shotRead};
-ghost use Rattle.pedr_write_check.specs.Refusal as pedr_write_check;
+ghost use Rattle.pedr_block_c.specs.Numbers.{blockOfNumbers};
+ghost use Rattle.pedr_write_refusal.specs.Refusal as pedr_write_refusal;
 ghost use Rattle.pedr_writer.specs.Write as pedr_writer;
 ghost use Rattle.reorder_c.specs.Calls.{OpensAs, OffersAs, ServesAs, DrainsAs, PassesAs};
 ghost use Rattle.mola.specs.Read.{noFields, asRead};
@@ -157,7 +160,7 @@ pub extern "C" fn mola_check_record(bytes: &[u8]) -> u8
 #[no_mangle]
 pub extern "C" fn mola_read_record(bytes: &[u8]) -> RecordNumbers
     ensures { λ r. ⌜ r ≡ recordNumbers (pedr.readDue (now (bytes .entry))) (pedr.readArrays (now (bytes .entry)))
-        (pedr.readUninterpreted (now (bytes .entry))) ⌝ }
+        (pedr.readRuns (now (bytes .entry))) (pedr.readCarried (now (bytes .entry))) (pedr.readUninterpreted (now (bytes .entry))) ⌝ }
 {
     pedr_c::read_record(bytes)
 }
@@ -170,19 +173,27 @@ pub extern "C" fn mola_read_shot(bytes: &[u8], shot: usize) -> ShotRead
     pedr_shot_c::read_shot(bytes, shot)
 }
 
-// Writes a record of these fields, arrays (a class by its number) and uninterpreted bytes into out: the refusal number, or 0. A refusal leaves out as it was.
+// Writes a record of these fields, engineering block (by its frame), arrays (a class by its number), runs, carried bytes of the block and uninterpreted bytes
+// into out: the refusal number, or 0. A block whose frame is none of 1 to 7 is of no record's frame, and has no carried bytes. A refusal leaves out as it was.
 #[no_mangle]
 pub extern "C" fn mola_write_record(
     fields: RecordFields,
+    block: BlockNumbers,
     arrays: ArrayNumbers,
+    runs: BlockRuns,
+    carried: &[u8],
     uninterpreted: &[u8],
     out: &mut [u8],
 ) -> u8
-    ensures { λ r. ⌜ (r ≡ pedr_write_check.writeRefusal fields (arraysOfNumbers arrays) (now (uninterpreted .entry)) (now (out .entry)))
-        × (now (out .exit) ≡ pedr_writer.writeBytes fields (arraysOfNumbers arrays) (now (uninterpreted .entry)) (now (out .entry))) ⌝ }
+    ensures { λ r. ⌜ (r ≡ pedr_write_refusal.writeRefusal fields (blockOfNumbers block (fields .receiver .«frame_index»)) (arraysOfNumbers arrays)
+        (now (carried .entry)) (now (uninterpreted .entry)) (now (out .entry)))
+        × (now (out .exit) ≡ pedr_writer.writeBytes fields (blockOfNumbers block (fields .receiver .«frame_index»)) (arraysOfNumbers arrays) runs
+        (now (carried .entry)) (now (uninterpreted .entry)) (now (out .entry))) ⌝ }
 {
+    let receiver = fields.receiver;
+    let own = pedr_block_c::block_of(block, receiver.frame_index);
     let given = pedr_c::arrays_of(arrays);
-    let written = pedr_writer::write_record(fields, given, uninterpreted, out);
+    let written = pedr_writer::write_record(fields, own, given, runs, carried, uninterpreted, out);
     match written {
         RecordWritten::Refused(n) => n,
         RecordWritten::Written => 0,

@@ -11,6 +11,14 @@ use Rattle.pedr_fields.specs.declared.Ranges.{Ranges}
 use Rattle.pedr_fields.specs.declared.Receiver.{Receiver}
 use Rattle.pedr_fields.specs.declared.PacketLink.{PacketLink}
 use Rattle.pedr_fields.specs.declared.RecordFields.{RecordFields}
+use Rattle.pedr_block.specs.declared.Frame1Fields.{Frame1Fields}
+use Rattle.pedr_block.specs.declared.Frame2Fields.{Frame2Fields}
+use Rattle.pedr_block.specs.declared.Frame3Fields.{Frame3Fields}
+use Rattle.pedr_block.specs.declared.Frame5Fields.{Frame5Fields}
+use Rattle.pedr_block.specs.declared.Frame6Fields.{Frame6Fields}
+use Rattle.pedr_block.specs.declared.Frame7Fields.{Frame7Fields}
+use Rattle.pedr_block_runs.specs.declared.BlockRuns.{BlockRuns}
+use Rattle.pedr_block_c.specs.declared.BlockNumbers.{BlockNumbers}
 use Rattle.pedr_arrays.specs.declared.ChannelArrays.{ChannelArrays}
 use Rattle.pedr_c.specs.declared.ShotNumbers.{ShotNumbers}
 use Rattle.pedr_c.specs.declared.ArrayNumbers.{ArrayNumbers}
@@ -28,6 +36,14 @@ use Rattle.pedr_fields.proofs.Ranges.Laws as In-ranges
 use Rattle.pedr_fields.proofs.Receiver.Laws as In-receiver
 use Rattle.pedr_fields.proofs.PacketLink.Laws as In-link
 use Rattle.pedr_fields.proofs.RecordFields.Laws as In-fields
+use Rattle.pedr_block.proofs.Frame1Fields.Laws as In-frame-1
+use Rattle.pedr_block.proofs.Frame2Fields.Laws as In-frame-2
+use Rattle.pedr_block.proofs.Frame3Fields.Laws as In-frame-3
+use Rattle.pedr_block.proofs.Frame5Fields.Laws as In-frame-5
+use Rattle.pedr_block.proofs.Frame6Fields.Laws as In-frame-6
+use Rattle.pedr_block.proofs.Frame7Fields.Laws as In-frame-7
+use Rattle.pedr_block_runs.proofs.BlockRuns.Laws as In-runs
+use Rattle.pedr_block_c.proofs.BlockNumbers.Laws as In-block
 use Rattle.pedr_arrays.proofs.ChannelArrays.Laws as In-channels
 use Rattle.pedr_c.proofs.ShotNumbers.Laws as In-shots
 use Rattle.pedr_c.proofs.ArrayNumbers.Laws as In-arrays
@@ -179,6 +195,110 @@ pub record ArrayLayouts : Type 0 where
       ∷ 2 times u32 at 580 is (λ a. a .«source_header»)
       ∷ [])
 
+-- ---- the engineering block
+
+abbrev pub frame1Fields : Kind Frame1Fields
+frame1Fields = record { type = In-frame-1.mir; value = In-frame-1.lowered }
+
+abbrev pub frame2Fields : Kind Frame2Fields
+frame2Fields = record { type = In-frame-2.mir; value = In-frame-2.lowered }
+
+abbrev pub frame3Fields : Kind Frame3Fields
+frame3Fields = record { type = In-frame-3.mir; value = In-frame-3.lowered }
+
+abbrev pub frame5Fields : Kind Frame5Fields
+frame5Fields = record { type = In-frame-5.mir; value = In-frame-5.lowered }
+
+abbrev pub frame6Fields : Kind Frame6Fields
+frame6Fields = record { type = In-frame-6.mir; value = In-frame-6.lowered }
+
+abbrev pub frame7Fields : Kind Frame7Fields
+frame7Fields = record { type = In-frame-7.mir; value = In-frame-7.lowered }
+
+abbrev pub blockNumbers : Kind BlockNumbers
+blockNumbers = record { type = In-block.mir; value = In-block.lowered }
+
+abbrev pub blockRuns : Kind BlockRuns
+blockRuns = record { type = In-runs.mir; value = In-runs.lowered }
+
+pub record BlockLayouts : Type 0 where
+  pub frame-1-laid : Laid frame1Fields 28 2 (
+      i16 at 0 is (λ f. f .«computer_memory_temperature»)
+      ∷ i16 at 2 is (λ f. f .«computer_cpu_temperature»)
+      ∷ i16 at 4 is (λ f. f .«power_supply_temperature»)
+      ∷ i16 at 6 is (λ f. f .«computer_io_temperature»)
+      ∷ i16 at 8 is (λ f. f .«laser_diode_array_temperature»)
+      ∷ i16 at 10 is (λ f. f .«laser_diode_drive_elecs_temp»)
+      ∷ i16 at 12 is (λ f. f .«optical_test_source_led_temp»)
+      ∷ i16 at 14 is (λ f. f .«hundred_mhz_oscillator_temp»)
+      ∷ i16 at 16 is (λ f. f .«start_detector_temperature»)
+      ∷ i16 at 18 is (λ f. f .«outside_detector_housing_temp»)
+      ∷ i16 at 20 is (λ f. f .«lasr_radiatr_opp_opt_port_temp»)
+      ∷ i16 at 22 is (λ f. f .«lser_radiator_output_port_temp»)
+      ∷ i16 at 24 is (λ f. f .«interface_plate_hot_foot_temp»)
+      ∷ i16 at 26 is (λ f. f .«honeycomb_panel_temperature»)
+      ∷ [])
+  pub frame-2-laid : Laid frame2Fields 28 2 (
+      i16 at 0 is (λ f. f .«electronics_box_top_sc_thrmstr»)
+      ∷ i16 at 2 is (λ f. f .«laser_case_hot_foot_temp»)
+      ∷ u16 at 4 is (λ f. f .«plus_28_volt_voltage_monitor»)
+      ∷ u16 at 6 is (λ f. f .«reference_voltage_monitor»)
+      ∷ u16 at 8 is (λ f. f .«plus_12_volt_voltage_monitor»)
+      ∷ u16 at 10 is (λ f. f .«plus_24_volt_voltage_monitor»)
+      ∷ u16 at 12 is (λ f. f .«plus_5_volt_voltage_monitor»)
+      ∷ u16 at 14 is (λ f. f .«minus_12_volt_voltage_monitor»)
+      ∷ u16 at 16 is (λ f. f .«laser_thermal_current_monitor»)
+      ∷ u16 at 18 is (λ f. f .«minus_5_volt_voltage_monitor»)
+      ∷ u16 at 20 is (λ f. f .«power_supply_current_monitor»)
+      ∷ u16 at 22 is (λ f. f .«high_voltage_monitor»)
+      ∷ u16 at 24 is (λ f. f .«minus_12_volt_current_monitor»)
+      ∷ u16 at 26 is (λ f. f .«plus_12_volt_current_monitor»)
+      ∷ [])
+  pub frame-3-laid : Laid frame3Fields 14 2 (
+      u16 at 0 is (λ f. f .«minus_5_volt_current_monitor»)
+      ∷ u16 at 2 is (λ f. f .«plus_5_volt_current_monitor»)
+      ∷ u8 at 4 is (λ f. f .«current_status_register_value»)
+      ∷ u8 at 5 is (λ f. f .«software_version_number»)
+      ∷ u16 at 6 is (λ f. f .«flag_word»)
+      ∷ u16 at 8 is (λ f. f .«software_validity_checksum»)
+      ∷ u8 at 10 is (λ f. f .«received_command_count»)
+      ∷ u8 at 11 is (λ f. f .«command_error_count»)
+      ∷ u8 at 12 is (λ f. f .«transmitter_threshold_setting»)
+      ∷ u8 at 13 is (λ f. f .«range_tracking_status»)
+      ∷ [])
+  pub frame-5-laid : Laid frame5Fields 8 4 (
+      u32 at 0 is (λ f. f .«hstart_value_histogram_dump»)
+      ∷ u16 at 4 is (λ f. f .«valid_commands_received_count»)
+      ∷ [])
+  pub frame-6-laid : Laid frame6Fields 2 2 (
+      u16 at 0 is (λ f. f .«packet_validity_checksum»)
+      ∷ [])
+  pub frame-7-laid : Laid frame7Fields 20 4 (
+      u32 at 0 is (λ f. f .«ots_range»)
+      ∷ u32 at 4 is (λ f. f .«first_ch_received_energy»)
+      ∷ u32 at 8 is (λ f. f .«ots_transmit_power»)
+      ∷ u8 at 12 is (λ f. f .«ots_pulse_width»)
+      ∷ u8 at 13 is (λ f. f .«ots_pulse_amplitude»)
+      ∷ u8 at 14 is (λ f. f .«ots_qual_flag»)
+      ∷ u8 at 15 is (λ f. f .«packet_type»)
+      ∷ u16 at 16 is (λ f. f .«areocentric_longitude_of_sun»)
+      ∷ [])
+  pub block-laid : Laid blockNumbers 108 4 (
+      u32 at 0 is (λ b. b .frame)
+      ∷ frame1Fields at 4 is (λ b. b .«frame_1»)
+      ∷ frame2Fields at 32 is (λ b. b .«frame_2»)
+      ∷ frame3Fields at 60 is (λ b. b .«frame_3»)
+      ∷ frame5Fields at 76 is (λ b. b .«frame_5»)
+      ∷ frame6Fields at 84 is (λ b. b .«frame_6»)
+      ∷ frame7Fields at 88 is (λ b. b .«frame_7»)
+      ∷ [])
+  pub runs-laid : Laid blockRuns 58 2 (
+      2 times u16 at 0 is (λ r. r .«status_flags»)
+      ∷ 14 times u16 at 4 is (λ r. r .«range_gate_tracker_array»)
+      ∷ 5 times u16 at 32 is (λ r. r .«memory_dump_segment»)
+      ∷ 8 times u16 at 42 is (λ r. r .«command_echo»)
+      ∷ [])
+
 -- ---- what is read
 
 abbrev pub recordNumbers : Kind RecordNumbers
@@ -193,11 +313,15 @@ shotRead = record { type = In-read.mir; value = In-read.lowered }
 pub record RecordLayouts : Type 0 where
   pub fields : FieldLayouts
   pub arrays : ArrayLayouts
-  pub record-laid : Laid recordNumbers 936 4 (
+  pub block : BlockLayouts
+  pub record-laid : Laid recordNumbers 1084 4 (
       u32 at 0 is (λ r. r .refusal)
       ∷ recordFields at 4 is (λ r. r .fields)
-      ∷ arrayNumbers at 100 is (λ r. r .arrays)
-      ∷ 248 times u8 at 688 is (λ r. r .uninterpreted)
+      ∷ blockNumbers at 100 is (λ r. r .block)
+      ∷ arrayNumbers at 208 is (λ r. r .arrays)
+      ∷ blockRuns at 796 is (λ r. r .runs)
+      ∷ 10 times u8 at 854 is (λ r. r .carried)
+      ∷ 220 times u8 at 864 is (λ r. r .uninterpreted)
       ∷ [])
   pub shot-laid : Laid oneShot 28 4 (
       u32 at 0 is (λ s. s .radius)

@@ -1,5 +1,7 @@
-// What C and Rust can rely on: how the structs lie that they share with the exported functions, and the refusal that they cannot get. A contract may not
+// What C and Rust can rely on: how the structs lie that they share with the exported functions, the refusal that they cannot get, and the one that they get for
+// a block of no frame. A contract may not
 // name how its own crate's structs lie in memory, so that this is a crate above `mola`.
+ghost use Rattle.mola_laws.specs.BlockFrame.{BlockKept, UnknownFrameRefused};
 ghost use Rattle.mola_laws.specs.ClassRefusal.{NoClassRefused};
 ghost use Rattle.mola_laws.specs.Layout.{StructLayouts};
 ghost use Rattle.mola_laws.specs.RecordLayout.{RecordLayouts};
@@ -17,4 +19,14 @@ pub fn record_layouts()
 // 40 does not come from C: a class is its number there, and the class of any number can be written.
 pub fn classes_not_refused()
     ensures { λ _. ⌜ NoClassRefused ⌝ }
+{}
+
+// The numbers of a block stand for that block.
+pub fn block_kept()
+    ensures { λ _. ⌜ BlockKept ⌝ }
+{}
+
+// A block whose frame number is none of 1 to 7 is refused.
+pub fn unknown_frame_refused()
+    ensures { λ _. ⌜ UnknownFrameRefused ⌝ }
 {}

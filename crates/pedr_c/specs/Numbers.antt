@@ -6,6 +6,10 @@ use Rattle.pedr_arrays.specs.Arrays.{shotClassNumber}
 use Rattle.pedr_arrays.specs.declared.ShotArrays.{ShotArrays}
 use Rattle.pedr_arrays.specs.declared.RecordArrays.{RecordArrays}
 use Rattle.pedr_fields.specs.declared.RecordFields.{RecordFields}
+use Rattle.pedr_block.specs.declared.Block.{Block}
+use Rattle.pedr_block_runs.specs.declared.BlockRuns.{BlockRuns}
+use Rattle.pedr_block_c.specs.Numbers.{noBlock, blockNumbers}
+use Rattle.pedr_block_c.specs.declared.BlockNumbers.{BlockNumbers}
 use Rattle.pedr_c.specs.Refused.{noFields}
 use Rattle.pedr_c.specs.declared.ShotNumbers.{ShotNumbers}
 use Rattle.pedr_c.specs.declared.ArrayNumbers.{ArrayNumbers}
@@ -35,10 +39,23 @@ arrayNumbers a =
       «source_header» = a .«source_header»;
     }
 
-abbrev pub fieldsIn : Said RecordFields → RecordFields
+abbrev pub fieldsIn : Said (RecordFields × Block) → RecordFields
 fieldsIn (refused n) = noFields
-fieldsIn (answered f) = f
+fieldsIn (answered x) = x .0
 
--- what is said of a record, with its arrays and uninterpreted bytes
-abbrev pub recordNumbers : Said RecordFields → RecordArrays → List ℕ → RecordNumbers
-recordNumbers said a u = record { refusal = refusalIn said; fields = fieldsIn said; arrays = arrayNumbers a; uninterpreted = u }
+abbrev pub blockIn : Said (RecordFields × Block) → BlockNumbers
+blockIn (refused n) = noBlock
+blockIn (answered x) = blockNumbers (x .1)
+
+-- what is said of a record, with its arrays, its block's runs and carried bytes, and its uninterpreted bytes
+abbrev pub recordNumbers : Said (RecordFields × Block) → RecordArrays → BlockRuns → List ℕ → List ℕ → RecordNumbers
+recordNumbers said a r c u =
+    record {
+      refusal = refusalIn said;
+      fields = fieldsIn said;
+      block = blockIn said;
+      arrays = arrayNumbers a;
+      runs = r;
+      carried = c;
+      uninterpreted = u;
+    }

@@ -4,6 +4,7 @@ use mathlib.Core.Bool.{false}
 use lib.IntN.{pos}
 use lib.ListN.{replicate}
 use Rattle.pedr_layout.specs.Layout.{shotCount}
+use Rattle.pedr_layout.specs.Block.{carriedMost}
 use Rattle.pedr_flags.specs.Encoder.{encoderOf}
 use Rattle.pedr_arrays.specs.Arrays.{noFailures}
 use Rattle.pedr_arrays.specs.Uninterpreted.{uninterpretedCount}
@@ -11,6 +12,8 @@ use Rattle.pedr_flags.specs.declared.Descriptor.{Descriptor}
 use Rattle.pedr_fields.specs.declared.OrbitPosition.{OrbitPosition}
 use Rattle.pedr_fields.specs.declared.Receiver.{Receiver}
 use Rattle.pedr_fields.specs.declared.RecordFields.{RecordFields}
+use Rattle.pedr_block_runs.specs.Runs.{noRuns}
+use Rattle.pedr_block_c.specs.Numbers.{noBlock}
 use Rattle.pedr_c.specs.declared.ArrayNumbers.{ArrayNumbers}
 use Rattle.pedr_c.specs.declared.RecordNumbers.{RecordNumbers}
 
@@ -66,4 +69,13 @@ noNumbers =
     }
 
 unfoldable pub refusedRecord : ℕ → RecordNumbers
-refusedRecord n = record { refusal = n; fields = noFields; arrays = noNumbers; uninterpreted = replicate uninterpretedCount 0 }
+refusedRecord n =
+    record {
+      refusal = n;
+      fields = noFields;
+      block = noBlock;
+      arrays = noNumbers;
+      runs = noRuns;
+      carried = replicate carriedMost 0;
+      uninterpreted = replicate uninterpretedCount 0;
+    }

@@ -3,6 +3,8 @@ use pedr_arrays::ChannelArrays;
 use pedr_arrays::RecordArrays;
 use pedr_arrays::ShotArrays;
 use pedr_arrays::ShotClass;
+use pedr_block_c::BlockNumbers;
+use pedr_block_runs::BlockRuns;
 use pedr_fields::FrameTime;
 use pedr_fields::OrbitPosition;
 use pedr_fields::PacketLink;
@@ -15,13 +17,14 @@ use pedr_flags::Descriptor;
 use pedr_flags::Encoder;
 use pedr_flags::Quality;
 use pedr_flags::ShotFailures;
+use pedr_layout::CARRIED;
 use pedr_layout::CLASS_AT;
 use pedr_layout::SHOTS;
 use pedr_layout::UNINTERPRETED;
 ghost use mathlib.Core.Path.{_≡_};
 ghost use mathlib.Core.List.{map};
 ghost use Rattle.pedr_arrays.specs.Arrays.{shotClass, classesOf, arraysOf, shotClassNumber};
-ghost use Rattle.pedr.specs.Read.{readDue, readArrays, readUninterpreted};
+ghost use Rattle.pedr.specs.Read.{readDue, readArrays, readRuns, readCarried, readUninterpreted};
 ghost use Rattle.pedr_c.specs.Refused.{noPosition, noDescriptor, noReceiver, noFields, noNumbers, refusedRecord};
 ghost use Rattle.pedr_c.specs.Numbers.{shotNumbers, arrayNumbers, recordNumbers};
 ghost use Rattle.pedr_c.specs.Back.{shotsOfNumbers, arraysOfNumbers};
@@ -55,7 +58,10 @@ pub struct ArrayNumbers {
 pub struct RecordNumbers {
     pub refusal: u32,
     pub fields: RecordFields,
+    pub block: BlockNumbers,
     pub arrays: ArrayNumbers,
+    pub runs: BlockRuns,
+    pub carried: [u8; CARRIED],
     pub uninterpreted: [u8; UNINTERPRETED],
 }
 
@@ -231,26 +237,36 @@ fn refused_record(refusal: u32) -> RecordNumbers
     RecordNumbers {
         refusal,
         fields: no_fields(),
+        block: pedr_block_c::no_block(),
         arrays: no_arrays(),
+        runs: pedr_block_runs::no_runs(),
+        carried: [0; CARRIED],
         uninterpreted: [0; UNINTERPRETED],
     }
 }
 
 // Reads a record. Any bytes. The fields last, behind the loops, so that the compiler reads each number by one load.
 pub fn read_record(bytes: &[u8]) -> RecordNumbers
-    ensures { λ r. ⌜ r ≡ recordNumbers (readDue (now (bytes .entry))) (readArrays (now (bytes .entry))) (readUninterpreted (now (bytes .entry))) ⌝ }
+    ensures { λ r. ⌜ r ≡ recordNumbers (readDue (now (bytes .entry))) (readArrays (now (bytes .entry))) (readRuns (now (bytes .entry)))
+        (readCarried (now (bytes .entry))) (readUninterpreted (now (bytes .entry))) ⌝ }
 {
     let n = pedr_check::record_refusal(bytes);
     if n != 0 {
         return refused_record(n as u32);
     }
     let uninterpreted = pedr_arrays::read_uninterpreted(bytes);
+    let carried = pedr_block_runs::read_carried(bytes);
+    let runs = pedr_block_runs::read_runs(bytes);
     let arrays = read_arrays(bytes);
+    let block = pedr_block_c::block_numbers(pedr_block::read_block(bytes));
     let fields = pedr_fields::read_fields(bytes);
     RecordNumbers {
         refusal: 0,
         fields,
+        block,
         arrays,
+        runs,
+        carried,
         uninterpreted,
     }
 }
