@@ -18,6 +18,7 @@ mod mola;
 mod reference;
 
 use reference::record;
+use reference::record::block::carried_length;
 use reference::{Answer, Refusal, PACKET, PUBLISHED_SUM_WORD, RECORD, STORE};
 use std::collections::BTreeMap;
 use std::hint::black_box;
@@ -75,6 +76,12 @@ trait Side {
     fn shot_said(shot: Self::Shot) -> mola::ShotRead;
 }
 
+/// A record that was read, and how many carried bytes its block has.
+struct Rewrite<R> {
+    read: R,
+    carried: usize,
+}
+
 struct Verified;
 
 impl Side for Verified {
@@ -84,7 +91,7 @@ impl Side for Verified {
     type Count = mola::Count;
     type Record = mola::Record;
     type Shot = mola::ShotRead;
-    type Write = mola::Record;
+    type Write = Rewrite<mola::Record>;
 
     fn session((next, marks): (u32, u32), first: &[u8; PACKET]) -> mola::Session {
         let read = mola::read_packet(first, PUBLISHED_SUM_WORD).fields;
@@ -145,8 +152,16 @@ impl Side for Verified {
     }
 
     #[inline(always)]
-    fn write_record(write: &mola::Record, out: &mut [u8]) -> u8 {
-        mola::write_record(write.fields, write.arrays, &write.uninterpreted, out)
+    fn write_record(Rewrite { read, carried }: &Self::Write, out: &mut [u8]) -> u8 {
+        mola::write_record(
+            read.fields,
+            read.block,
+            read.arrays,
+            read.runs,
+            &read.carried[..*carried],
+            &read.uninterpreted,
+            out,
+        )
     }
 
     #[inline(always)]
@@ -162,8 +177,9 @@ impl Side for Verified {
         count.count
     }
 
-    fn rewrite(record: mola::Record) -> mola::Record {
-        record
+    fn rewrite(read: mola::Record) -> Self::Write {
+        let carried = carried_length(read.fields.receiver.frame_index);
+        Rewrite { read, carried }
     }
 
     fn record_said(record: mola::Record) -> mola::Record {
@@ -177,6 +193,7 @@ impl Side for Verified {
 
 /// The reference as a library offers it. A symbol that others may call keeps the compiler from using what it knows of the callers here.
 mod called {
+    use super::reference::record::block::{Block, Runs};
     use super::reference::record::{self, Arrays, Fields, Record, Shot};
     use super::reference::{self, Answer, Refusal, Session};
 
@@ -252,11 +269,14 @@ mod called {
     #[inline(never)]
     pub fn rust_write_record(
         fields: Fields,
+        block: Option<Block>,
         arrays: Arrays,
+        runs: Runs,
+        carried: &[u8],
         uninterpreted: &[u8],
         out: &mut [u8],
     ) -> Result<(), Refusal> {
-        record::write(fields, arrays, uninterpreted, out)
+        record::write(fields, block, arrays, runs, carried, uninterpreted, out)
     }
 }
 
@@ -273,7 +293,7 @@ macro_rules! reference_side {
             type Count = Result<u32, Refusal>;
             type Record = Result<record::Record, Refusal>;
             type Shot = Result<record::Shot, Refusal>;
-            type Write = record::Record;
+            type Write = Rewrite<record::Record>;
 
             fn session((next, marks): (u32, u32), first: &[u8; PACKET]) -> Self::Session {
                 let read = reference::read_packet(first, PUBLISHED_SUM_WORD)
@@ -336,8 +356,19 @@ macro_rules! reference_side {
             }
 
             #[inline(always)]
-            fn write_record(write: &record::Record, out: &mut [u8]) -> Self::Check {
-                $write_record(write.fields, write.arrays, &write.uninterpreted, out)
+            fn write_record(
+                Rewrite { read, carried }: &Self::Write,
+                out: &mut [u8],
+            ) -> Self::Check {
+                $write_record(
+                    read.fields,
+                    Some(read.block),
+                    read.arrays,
+                    read.runs,
+                    &read.carried[..*carried],
+                    &read.uninterpreted,
+                    out,
+                )
             }
 
             #[inline(always)]
@@ -358,8 +389,10 @@ macro_rules! reference_side {
                 count.unwrap_or(0)
             }
 
-            fn rewrite(record: Self::Record) -> record::Record {
-                record.expect("valid")
+            fn rewrite(record: Self::Record) -> Self::Write {
+                let read = record.expect("valid");
+                let carried = carried_length(read.fields.receiver.frame_index);
+                Rewrite { read, carried }
             }
 
             fn record_said(record: Self::Record) -> mola::Record {
@@ -571,7 +604,7 @@ fn shot_reads<S: Side>(records: &Records, times: usize) -> usize {
     times
 }
 
-/// Fields and arrays go by value: the copy that is made of them for each call counts.
+/// Fields, block, arrays and runs go by value: the copy that is made of them for each call counts.
 fn record_writes<S: Side>(records: &Records, buffers: &mut Buffers, times: usize) -> usize {
     let writes: Vec<S::Write> = records
         .iter()

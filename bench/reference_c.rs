@@ -9,9 +9,10 @@ mod mola;
 #[path = "../tests/reference.rs"]
 mod reference;
 
-use convert::{answer, number};
-use mola::{Answer, Count};
-use reference::record::{self, Record, Shot};
+use convert::{answer, number, own_block, Lent};
+use mola::{Answer, Block, Count};
+use reference::record::block::{Runs, MOST_CARRIED};
+use reference::record::{self, Shot, UNINTERPRETED};
 use reference::{Arrays, Fields, Packet, Refusal, Session};
 use std::mem::zeroed;
 use std::slice::{from_raw_parts, from_raw_parts_mut};
@@ -24,13 +25,40 @@ pub struct Read<T> {
 }
 
 /// Safety: every bit of `T` may be zero.
-unsafe fn read<T>(answer: Result<T, Refusal>) -> Read<T> {
+unsafe fn read<T: From<Own>, Own>(answer: Result<Own, Refusal>) -> Read<T> {
     match answer {
-        Ok(read) => Read { refusal: 0, read },
+        Ok(own) => Read {
+            refusal: 0,
+            read: own.into(),
+        },
         Err(refusal) => Read {
             refusal: u32::from(refusal),
             read: zeroed(),
         },
+    }
+}
+
+/// A record with its block as the header has it.
+#[repr(C)]
+pub struct Record {
+    fields: record::Fields,
+    block: Block,
+    arrays: record::Arrays,
+    runs: Runs,
+    carried: [u8; MOST_CARRIED],
+    uninterpreted: [u8; UNINTERPRETED],
+}
+
+impl From<record::Record> for Record {
+    fn from(own: record::Record) -> Record {
+        Record {
+            fields: own.fields,
+            block: own.block.lent(),
+            arrays: own.arrays,
+            runs: own.runs,
+            carried: own.carried,
+            uninterpreted: own.uninterpreted,
+        }
     }
 }
 
@@ -115,7 +143,11 @@ pub unsafe extern "C" fn mola_read_shot(bytes: *const u8, len: usize, shot: usiz
 #[no_mangle]
 pub unsafe extern "C" fn mola_write_record(
     fields: record::Fields,
+    block: Block,
     arrays: record::Arrays,
+    runs: Runs,
+    carried: *const u8,
+    carried_len: usize,
     uninterpreted: *const u8,
     uninterpreted_len: usize,
     out: *mut u8,
@@ -123,7 +155,10 @@ pub unsafe extern "C" fn mola_write_record(
 ) -> u8 {
     number(record::write(
         fields,
+        own_block(block),
         arrays,
+        runs,
+        from_raw_parts(carried, carried_len),
         from_raw_parts(uninterpreted, uninterpreted_len),
         from_raw_parts_mut(out, out_len),
     ))

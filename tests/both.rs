@@ -40,7 +40,7 @@ pub const FUNCTIONS: [(&str, &[u8]); 15] = [
     ("check_record", &[11, 12, 13, 14, 15]),
     ("read_record", &[11, 12, 13, 14, 15]),
     ("read_shot", &[11, 12, 13, 14, 15, 16]),
-    ("write_record", &[13, 14, 15, 41, 49]),
+    ("write_record", &[13, 14, 15, 41, 42, 49]),
     ("open", &[1, 2, 3, 4, 5, 6, 7, 8, 9, 10, 20, 27]),
     (
         "offer",
@@ -56,6 +56,9 @@ pub struct Harness {
     pub section: &'static str,
     /// How often each function gave each refusal, 0 for none.
     pub given: [[u64; NUMBERS]; FUNCTIONS.len()],
+    /// Accepted reads of records, and accepted writes, by frame, that of frame 1 first.
+    pub frames_read: [u64; 7],
+    pub frames_written: [u64; 7],
     /// Accepted serves of the histories by kind.
     pub served: [u64; 3],
     /// Accepted drains of the histories by count.
@@ -72,6 +75,8 @@ impl Harness {
             seed: 0,
             section: "",
             given: [[0; NUMBERS]; FUNCTIONS.len()],
+            frames_read: [0; 7],
+            frames_written: [0; 7],
             served: [0; 3],
             drained: [0; 33],
             lists: 0,
@@ -242,6 +247,9 @@ impl Harness {
         self.same(call, library, convert::record_read(answer));
         self.same_items(call, "record", &lent, record);
         self.count(READ_RECORD, library.refusal);
+        if library.refusal == 0 {
+            self.frames_read[library.block.frame as usize - 1] += 1;
+        }
         answer.ok()
     }
 
@@ -258,26 +266,44 @@ impl Harness {
     pub fn write_record(&mut self, write: &RecordWrite, out: &mut Twin<u8>) -> u32 {
         let RecordWrite {
             fields,
+            block,
             arrays,
+            runs,
+            carried,
             uninterpreted,
             room,
         } = write;
         let (lent, ours) = out.lend(*room);
-        let lent_bytes = uninterpreted.clone();
+        let (lent_carried, lent_bytes) = (carried.clone(), uninterpreted.clone());
         let library = u32::from(mola::write_record(
             fields.lent(),
+            *block,
             arrays.lent(),
+            runs.lent(),
+            &lent_carried,
             &lent_bytes,
             lent,
         ));
-        let answer = reference::record::write(*fields, *arrays, uninterpreted, ours);
+        let answer = reference::record::write(
+            *fields,
+            convert::own_block(*block),
+            *arrays,
+            *runs,
+            carried,
+            uninterpreted,
+            ours,
+        );
         let call = format_args!(
-            "write_record({fields:?}, {arrays:?}, uninterpreted {uninterpreted:02x?}, out of {room})"
+            "write_record({fields:?}, {block:?}, {arrays:?}, {runs:?}, carried {carried:02x?}, uninterpreted {uninterpreted:02x?}, out of {room})"
         );
         self.same(call, library, number(answer));
         out.compare(self, call, "out", *room);
+        self.same_items(call, "carried", &lent_carried, carried);
         self.same_items(call, "uninterpreted", &lent_bytes, uninterpreted);
         self.count(WRITE_RECORD, library);
+        if library == 0 {
+            self.frames_written[block.frame as usize - 1] += 1;
+        }
         library
     }
 }

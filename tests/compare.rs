@@ -175,6 +175,10 @@ fn print_table(harness: &Harness) {
             .collect();
         println!("{name:<13} {calls:>9} {:>9}  {}", given[0], times.join(" "));
     }
+    println!(
+        "records by frame from 1 to 7: read {:?}, written {:?}",
+        harness.frames_read, harness.frames_written
+    );
     let [waiting, packet, missing] = harness.served;
     println!("serves: waiting {waiting}, packet {packet}, missing {missing}");
     let between: u64 = harness.drained[1..32].iter().sum();
@@ -202,6 +206,11 @@ fn is_complete(harness: &Harness) -> bool {
             println!("never given: {name} {number}");
             complete = false;
         }
+    }
+    let frames = harness.frames_read.iter().chain(&harness.frames_written);
+    if frames.into_iter().any(|times| *times == 0) {
+        println!("never read or written: a record of some frame");
+        complete = false;
     }
     let kinds = harness
         .served

@@ -1,6 +1,7 @@
 //! The reference's values and answers as the header has them, which are the ones lent to the library.
 
 use crate::mola;
+use crate::reference::record::block::{self, Block};
 use crate::reference::{record, Anchor, Answer, Arrays, Fields, Packet, Refusal, Session, Window};
 
 pub trait Lent {
@@ -74,8 +75,86 @@ structs! {
     }
     record::ChannelArrays = mola::ChannelArrays { noise, thresholds }
     record::Arrays = mola::RecordArrays { shots, channels, xyz, source_header }
+    block::Runs = mola::BlockRuns { status_flags, range_gate_tracker_array, memory_dump_segment, command_echo }
     record::Shot = mola::Shot {
         radius, energy, reflectivity, trigger_channel, pulse_width, optical_width, laser_power, class_number, encoder, good, failures
+    }
+}
+
+/// Structs of the same numbers, which are taken back too.
+macro_rules! frames {
+    ($($own:path = $lent:path { $($field:ident),* })*) => {
+        structs! { $($own = $lent { $($field),* })* }
+
+        $(impl From<$lent> for $own {
+            fn from(lent: $lent) -> $own {
+                $own { $($field: lent.$field),* }
+            }
+        })*
+    };
+}
+
+frames! {
+    block::Frame1 = mola::Frame1 {
+        computer_memory_temperature, computer_cpu_temperature, power_supply_temperature, computer_io_temperature,
+        laser_diode_array_temperature, laser_diode_drive_elecs_temp, optical_test_source_led_temp, hundred_mhz_oscillator_temp,
+        start_detector_temperature, outside_detector_housing_temp, lasr_radiatr_opp_opt_port_temp, lser_radiator_output_port_temp,
+        interface_plate_hot_foot_temp, honeycomb_panel_temperature
+    }
+    block::Frame2 = mola::Frame2 {
+        electronics_box_top_sc_thrmstr, laser_case_hot_foot_temp, plus_28_volt_voltage_monitor, reference_voltage_monitor,
+        plus_12_volt_voltage_monitor, plus_24_volt_voltage_monitor, plus_5_volt_voltage_monitor, minus_12_volt_voltage_monitor,
+        laser_thermal_current_monitor, minus_5_volt_voltage_monitor, power_supply_current_monitor, high_voltage_monitor,
+        minus_12_volt_current_monitor, plus_12_volt_current_monitor
+    }
+    block::Frame3 = mola::Frame3 {
+        minus_5_volt_current_monitor, plus_5_volt_current_monitor, current_status_register_value, software_version_number, flag_word,
+        software_validity_checksum, received_command_count, command_error_count, transmitter_threshold_setting, range_tracking_status
+    }
+    block::Frame5 = mola::Frame5 { hstart_value_histogram_dump, valid_commands_received_count }
+    block::Frame6 = mola::Frame6 { packet_validity_checksum }
+    block::Frame7 = mola::Frame7 {
+        ots_range, first_ch_received_energy, ots_transmit_power, ots_pulse_width, ots_pulse_amplitude, ots_qual_flag, packet_type,
+        areocentric_longitude_of_sun
+    }
+}
+
+/// The structs of other frames are zeros.
+impl Lent for Block {
+    type Lent = mola::Block;
+
+    fn lent(self) -> mola::Block {
+        let mut lent = mola::Block::default();
+        lend_block(self, &mut lent);
+        lent
+    }
+}
+
+/// Sets the frame and its struct; the structs of other frames stay.
+pub fn lend_block(block: Block, lent: &mut mola::Block) {
+    lent.frame = u32::from(block.frame());
+    match block {
+        Block::Frame1(numbers) => lent.frame_1 = numbers.lent(),
+        Block::Frame2(numbers) => lent.frame_2 = numbers.lent(),
+        Block::Frame3(numbers) => lent.frame_3 = numbers.lent(),
+        Block::Frame4 => {}
+        Block::Frame5(numbers) => lent.frame_5 = numbers.lent(),
+        Block::Frame6(numbers) => lent.frame_6 = numbers.lent(),
+        Block::Frame7(numbers) => lent.frame_7 = numbers.lent(),
+    }
+}
+
+/// None where its frame is none of 1 to 7.
+pub fn own_block(lent: mola::Block) -> Option<Block> {
+    match lent.frame {
+        1 => Some(Block::Frame1(lent.frame_1.into())),
+        2 => Some(Block::Frame2(lent.frame_2.into())),
+        3 => Some(Block::Frame3(lent.frame_3.into())),
+        4 => Some(Block::Frame4),
+        5 => Some(Block::Frame5(lent.frame_5.into())),
+        6 => Some(Block::Frame6(lent.frame_6.into())),
+        7 => Some(Block::Frame7(lent.frame_7.into())),
+        _ => None,
     }
 }
 
@@ -135,13 +214,19 @@ pub fn record_read(answer: Result<record::Record, Refusal>) -> mola::Record {
         Ok(record) => mola::Record {
             refusal: 0,
             fields: record.fields.lent(),
+            block: record.block.lent(),
             arrays: record.arrays.lent(),
+            runs: record.runs.lent(),
+            carried: record.carried,
             uninterpreted: record.uninterpreted,
         },
         Err(refusal) => mola::Record {
             refusal: u32::from(refusal),
             fields: mola::RecordFields::default(),
+            block: mola::Block::default(),
             arrays: mola::RecordArrays::default(),
+            runs: mola::BlockRuns::default(),
+            carried: [0; block::MOST_CARRIED],
             uninterpreted: [0; record::UNINTERPRETED],
         },
     }

@@ -1,8 +1,10 @@
 //! Random inputs: packets, fields, records and sessions, valid ones and damaged ones.
 
-use crate::mola::{Anchor, Session, Window};
+use crate::convert::lend_block;
+use crate::mola::{Anchor, Block, Session, Window};
 use crate::random::Random;
-use crate::reference::record::{self, UNINTERPRETED};
+use crate::reference::record::block::{carried_length, Runs};
+use crate::reference::record::{self, Record, UNINTERPRETED};
 use crate::reference::{packet_sum, Arrays, Fields, CARRIED, END, PACKET, RECORD};
 
 /// A sum word in range, its edges and the published one preferred.
@@ -213,8 +215,20 @@ fn fields(random: &Random) -> Fields {
     }
 }
 
+/// The frames of a record's engineering block.
+pub const FRAMES: std::ops::RangeInclusive<u16> = 1..=7;
+
+fn frame(random: &Random) -> u16 {
+    random.within(1, 7) as u16
+}
+
 /// An accepted record.
 pub fn record(random: &Random) -> Vec<u8> {
+    record_of(random, frame(random))
+}
+
+/// An accepted record of this frame.
+pub fn record_of(random: &Random, frame: u16) -> Vec<u8> {
     let mut record = contents(random, RECORD);
     let ones = u32::from_be_bytes([0, record[28] & 0x0F, record[29], record[30]]).count_ones();
     record[31] = ones as u8;
@@ -227,7 +241,7 @@ pub fn record(random: &Random) -> Vec<u8> {
         random.within(-90_000_000, 90_000_000),
     ]);
     put_i32(&mut record, 12, latitude);
-    record[490..492].copy_from_slice(&(random.within(1, 7) as u16).to_be_bytes());
+    record[490..492].copy_from_slice(&frame.to_be_bytes());
     record
 }
 
@@ -297,10 +311,14 @@ pub fn shot(random: &Random) -> usize {
     }
 }
 
-/// The arguments of a record's write, with the length of the output that is lent to it.
+/// The arguments of a record's write, with the length of the output that is lent to it. The block is as a caller in C gives it: its frame is any
+/// number, and the structs of other frames and the runs that its frame lacks hold any numbers.
 pub struct RecordWrite {
     pub fields: record::Fields,
+    pub block: Block,
     pub arrays: record::Arrays,
+    pub runs: Runs,
+    pub carried: Vec<u8>,
     pub uninterpreted: Vec<u8>,
     pub room: usize,
 }
@@ -310,30 +328,109 @@ pub const LONGEST_RECORD_ROOM: usize = 2_000;
 
 /// A record's write of up to three defects, with the number that refuses it, or 0.
 pub fn record_write(random: &Random) -> (RecordWrite, u32) {
-    let read = record::read(&record(random)).expect("an accepted record");
+    let defects = (0..random.pick(&[0, 0, 1, 1, 2, 3])).map(|_| random.below(DEFECTS.len()));
+    spoiled_write(random, frame(random), defects.collect())
+}
+
+/// Writes of each frame without a defect, and of each other defect together with each one of 42, with the numbers that refuse them, or 0.
+pub fn ordered_writes(random: &Random) -> Vec<(RecordWrite, u32)> {
+    let accepted = FRAMES.map(|frame| spoiled_write(random, frame, vec![]));
+    let last = (0..DEFECTS.len()).filter(|at| DEFECTS[*at].0 == 42);
+    let pairs = last.flat_map(|last| (0..last).map(move |at| vec![at, last]));
+    let spoiled = pairs.map(|defects| spoiled_write(random, frame(random), defects));
+    accepted.chain(spoiled).collect()
+}
+
+/// Writes of each frame index with a block of each frame and of none, and with as many carried bytes as the layout of the block leaves and as that of
+/// the frame index does, with the numbers that refuse them, or 0.
+pub fn block_writes(random: &Random) -> Vec<(RecordWrite, u32)> {
+    let mut writes = vec![];
+    for index in FRAMES {
+        for frame in 0..=8 {
+            for carried in [frame, index].map(carried_length) {
+                let mut write = accepted_write(random, index);
+                write.block.frame = u32::from(frame);
+                write.carried = contents(random, carried);
+                writes.push((write, block_refusal(index, frame, carried)));
+            }
+        }
+    }
+    writes
+}
+
+fn block_refusal(index: u16, frame: u16, carried: usize) -> u32 {
+    if carried != carried_length(frame) {
+        49
+    } else if frame != index {
+        42
+    } else {
+        0
+    }
+}
+
+/// A write of this frame with these defects, by their places in DEFECTS, and the number that refuses it, or 0.
+fn spoiled_write(random: &Random, frame: u16, mut defects: Vec<usize>) -> (RecordWrite, u32) {
+    let mut write = accepted_write(random, frame);
+    defects.sort();
+    // In reverse, since a number of carried bytes is wrong for the block that is given in the end.
+    for at in defects.iter().rev() {
+        let (_, spoil) = DEFECTS[*at];
+        spoil(random, &mut write);
+    }
+    let refusal = defects.first().map_or(0, |at| DEFECTS[*at].0);
+    (write, refusal)
+}
+
+fn accepted_write(random: &Random, frame: u16) -> RecordWrite {
+    let read = read_of(random, frame);
     let mut write = RecordWrite {
         fields: read.fields,
+        block: block(random, frame),
         arrays: read.arrays,
+        runs: runs(random),
+        carried: contents(random, carried_length(frame)),
         uninterpreted: read.uninterpreted.to_vec(),
         room: RECORD,
     };
     // The writer does not read the counter.
     write.fields.quality.counter = random.u8();
-    let mut first = DEFECTS.len();
-    for _ in 0..random.pick(&[0, 0, 1, 1, 2, 3]) {
-        let at = random.below(DEFECTS.len());
-        let (_, spoil) = DEFECTS[at];
-        spoil(random, &mut write);
-        first = first.min(at);
+    write
+}
+
+fn read_of(random: &Random, frame: u16) -> Record {
+    record::read(&record_of(random, frame)).expect("an accepted record")
+}
+
+/// A block of this frame; the writer does not read the structs of the others.
+fn block(random: &Random, frame: u16) -> Block {
+    let mut block = Block::default();
+    for frame in FRAMES {
+        lend_block(read_of(random, frame).block, &mut block);
     }
-    let refusal = DEFECTS.get(first).map_or(0, |(number, _)| *number);
-    (write, refusal)
+    block.frame = u32::from(frame);
+    block
+}
+
+fn runs(random: &Random) -> Runs {
+    Runs {
+        status_flags: std::array::from_fn(|_| random.u16()),
+        range_gate_tracker_array: std::array::from_fn(|_| random.u16()),
+        memory_dump_segment: std::array::from_fn(|_| random.u16()),
+        command_echo: std::array::from_fn(|_| random.u16()),
+    }
+}
+
+impl RecordWrite {
+    /// How many bytes the given block's layout leaves.
+    fn left(&self) -> usize {
+        u16::try_from(self.block.frame).map_or(0, carried_length)
+    }
 }
 
 type Defect = (u32, fn(&Random, &mut RecordWrite));
 
 /// What a record's write is refused for, with the number, in the order of the tests.
-const DEFECTS: [Defect; 9] = [
+const DEFECTS: [Defect; 14] = [
     (13, |random, write| {
         write.fields.time.micros = beyond(random, 999_999)
     }),
@@ -363,13 +460,57 @@ const DEFECTS: [Defect; 9] = [
         *part = over(random, 2, 8) as u8;
     }),
     (49, |random, write| {
+        let length = other_carried_length(random, write.left());
+        write.carried.resize(length, 7);
+    }),
+    // As many as the layout of the frame index leaves, which are not as many as the block's.
+    (49, |random, write| {
+        let left = carried_length(write.fields.receiver.frame_index);
+        let others: Vec<u16> = FRAMES.filter(|f| carried_length(*f) != left).collect();
+        write.block.frame = u32::from(random.pick(&others));
+        write.carried.resize(left, 7);
+    }),
+    (49, |random, write| {
         let length = other_length(random, UNINTERPRETED);
         write.uninterpreted.resize(length, 7);
     }),
     (41, |random, write| {
         write.room = other_length(random, RECORD)
     }),
+    (42, |random, write| {
+        let index = write.fields.receiver.frame_index;
+        write.block.frame = other_frame(random, u32::from(index));
+        write.carried.resize(write.left(), 7);
+    }),
+    (42, |random, write| {
+        write.fields.receiver.frame_index = other_frame(random, write.block.frame) as u16
+    }),
+    (42, |random, write| {
+        write.block.frame = no_frame(random, write.block.frame);
+        write.carried.clear();
+    }),
 ];
+
+/// A frame that is not this one.
+fn other_frame(random: &Random, frame: u32) -> u32 {
+    let other = random.within(1, 6) as u32;
+    other + u32::from(other >= frame)
+}
+
+/// A number that is no frame's, some of which would be this frame's if bits of them were lost.
+fn no_frame(random: &Random, frame: u32) -> u32 {
+    let wide = frame | random.pick(&[1 << 3, 1 << 8, 1 << 16, 1 << 31]);
+    random.pick(&[0, 8, u32::MAX, wide, wide, random.u32() | 8])
+}
+
+fn other_carried_length(random: &Random, length: usize) -> usize {
+    let other = random.pick(&[0, 1, 2, 3, 4, 5, 9, 10, 11, 28, random.below(1_000)]);
+    if other == length {
+        length + 1
+    } else {
+        other
+    }
+}
 
 /// A number more than `limit` from 0.
 fn beyond(random: &Random, limit: i32) -> i32 {

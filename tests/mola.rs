@@ -177,12 +177,115 @@ pub struct RecordArrays {
 }
 
 #[repr(C)]
+#[derive(Clone, Copy, Debug, Default, PartialEq, Eq)]
+pub struct Frame1 {
+    pub computer_memory_temperature: i16,
+    pub computer_cpu_temperature: i16,
+    pub power_supply_temperature: i16,
+    pub computer_io_temperature: i16,
+    pub laser_diode_array_temperature: i16,
+    pub laser_diode_drive_elecs_temp: i16,
+    pub optical_test_source_led_temp: i16,
+    pub hundred_mhz_oscillator_temp: i16,
+    pub start_detector_temperature: i16,
+    pub outside_detector_housing_temp: i16,
+    pub lasr_radiatr_opp_opt_port_temp: i16,
+    pub lser_radiator_output_port_temp: i16,
+    pub interface_plate_hot_foot_temp: i16,
+    pub honeycomb_panel_temperature: i16,
+}
+
+#[repr(C)]
+#[derive(Clone, Copy, Debug, Default, PartialEq, Eq)]
+pub struct Frame2 {
+    pub electronics_box_top_sc_thrmstr: i16,
+    pub laser_case_hot_foot_temp: i16,
+    pub plus_28_volt_voltage_monitor: u16,
+    pub reference_voltage_monitor: u16,
+    pub plus_12_volt_voltage_monitor: u16,
+    pub plus_24_volt_voltage_monitor: u16,
+    pub plus_5_volt_voltage_monitor: u16,
+    pub minus_12_volt_voltage_monitor: u16,
+    pub laser_thermal_current_monitor: u16,
+    pub minus_5_volt_voltage_monitor: u16,
+    pub power_supply_current_monitor: u16,
+    pub high_voltage_monitor: u16,
+    pub minus_12_volt_current_monitor: u16,
+    pub plus_12_volt_current_monitor: u16,
+}
+
+#[repr(C)]
+#[derive(Clone, Copy, Debug, Default, PartialEq, Eq)]
+pub struct Frame3 {
+    pub minus_5_volt_current_monitor: u16,
+    pub plus_5_volt_current_monitor: u16,
+    pub current_status_register_value: u8,
+    pub software_version_number: u8,
+    pub flag_word: u16,
+    pub software_validity_checksum: u16,
+    pub received_command_count: u8,
+    pub command_error_count: u8,
+    pub transmitter_threshold_setting: u8,
+    pub range_tracking_status: u8,
+}
+
+#[repr(C)]
+#[derive(Clone, Copy, Debug, Default, PartialEq, Eq)]
+pub struct Frame5 {
+    pub hstart_value_histogram_dump: u32,
+    pub valid_commands_received_count: u16,
+}
+
+#[repr(C)]
+#[derive(Clone, Copy, Debug, Default, PartialEq, Eq)]
+pub struct Frame6 {
+    pub packet_validity_checksum: u16,
+}
+
+#[repr(C)]
+#[derive(Clone, Copy, Debug, Default, PartialEq, Eq)]
+pub struct Frame7 {
+    pub ots_range: u32,
+    pub first_ch_received_energy: u32,
+    pub ots_transmit_power: u32,
+    pub ots_pulse_width: u8,
+    pub ots_pulse_amplitude: u8,
+    pub ots_qual_flag: u8,
+    pub packet_type: u8,
+    pub areocentric_longitude_of_sun: u16,
+}
+
+#[repr(C)]
+#[derive(Clone, Copy, Debug, Default, PartialEq, Eq)]
+pub struct Block {
+    pub frame: u32,
+    pub frame_1: Frame1,
+    pub frame_2: Frame2,
+    pub frame_3: Frame3,
+    pub frame_5: Frame5,
+    pub frame_6: Frame6,
+    pub frame_7: Frame7,
+}
+
+#[repr(C)]
+#[derive(Clone, Copy, Debug, Default, PartialEq, Eq)]
+pub struct BlockRuns {
+    pub status_flags: [u16; 2],
+    pub range_gate_tracker_array: [u16; 14],
+    pub memory_dump_segment: [u16; 5],
+    pub command_echo: [u16; 8],
+}
+
+#[repr(C)]
 #[derive(Clone, Copy, Debug, PartialEq, Eq)]
 pub struct Record {
     pub refusal: u32,
     pub fields: RecordFields,
+    pub block: Block,
     pub arrays: RecordArrays,
-    pub uninterpreted: [u8; 248],
+    pub runs: BlockRuns,
+    pub carried: [u8; 10],
+    pub uninterpreted: [u8; 220],
 }
 
 #[repr(C)]
@@ -256,7 +359,9 @@ const _: () = assert!(size_of::<Read>() == 112);
 const _: () = assert!(size_of::<RecordFields>() == 96);
 const _: () = assert!(size_of::<ShotArrays>() == 520);
 const _: () = assert!(size_of::<RecordArrays>() == 588);
-const _: () = assert!(size_of::<Record>() == 936);
+const _: () = assert!(size_of::<Block>() == 108);
+const _: () = assert!(size_of::<BlockRuns>() == 58);
+const _: () = assert!(size_of::<Record>() == 1084);
 const _: () = assert!(size_of::<Shot>() == 28);
 const _: () = assert!(size_of::<ShotRead>() == 32);
 const _: () = assert!(size_of::<Session>() == 24);
@@ -285,7 +390,11 @@ extern "C" {
     fn mola_read_shot(record: *const u8, record_len: usize, shot: usize) -> ShotRead;
     fn mola_write_record(
         fields: RecordFields,
+        block: Block,
         arrays: RecordArrays,
+        runs: BlockRuns,
+        carried: *const u8,
+        carried_len: usize,
         uninterpreted: *const u8,
         uninterpreted_len: usize,
         out: *mut u8,
@@ -387,14 +496,21 @@ pub fn read_shot(record: &[u8], shot: usize) -> ShotRead {
 
 pub fn write_record(
     fields: RecordFields,
+    block: Block,
     arrays: RecordArrays,
+    runs: BlockRuns,
+    carried: &[u8],
     uninterpreted: &[u8],
     out: &mut [u8],
 ) -> u8 {
     unsafe {
         mola_write_record(
             fields,
+            block,
             arrays,
+            runs,
+            carried.as_ptr(),
+            carried.len(),
             uninterpreted.as_ptr(),
             uninterpreted.len(),
             out.as_mut_ptr(),

@@ -1,13 +1,17 @@
-//! The PEDR record of document 01, read, and written as document 02's request 1 has it. The columns are those of document 001, the encoder bytes
-//! those of document 000; a test holds them against document 01's list.
+//! The PEDR record of document 01, read, and written as document 02's request 1 has it, with the engineering block of request 2. The columns are
+//! those of document 001, the encoder bytes those of document 000; a test holds them against document 01's list.
 
 use super::{Refusal, RECORD};
+use block::{carried_length, Block, Runs, MOST_CARRIED};
 use std::marker::PhantomData;
 use std::ops::Range;
 
-/// "Bytes 509-620 and 641-776 are not interpreted."
-pub const UNINTERPRETED: usize = 112 + 136;
-const FIRST_UNINTERPRETED: Range<usize> = 508..620;
+#[path = "reference_block.rs"]
+pub mod block;
+
+/// "Bytes 509-620 and 641-776 are not interpreted", and of these "the uninterpreted bytes outside the block".
+pub const UNINTERPRETED: usize = 84 + 136;
+const FIRST_UNINTERPRETED: Range<usize> = 536..620;
 const LAST_UNINTERPRETED: Range<usize> = 640..776;
 
 // ---- columns
@@ -68,7 +72,7 @@ const PKT_FINE_TIME: Column<u16> = start_byte(507);
 const ENCODER_BITS: Column<u8, 20> = start_byte(621);
 
 impl<T: Number, const ITEMS: usize> Column<T, ITEMS> {
-    fn bytes(&self) -> Range<usize> {
+    const fn bytes(&self) -> Range<usize> {
         let at = self.start_byte - 1;
         at..at + ITEMS * T::BYTES
     }
@@ -269,11 +273,14 @@ pub struct Arrays {
     pub source_header: [u32; 2],
 }
 
-#[repr(C)]
 #[derive(Clone, Copy, Debug, PartialEq, Eq)]
 pub struct Record {
     pub fields: Fields,
+    pub block: Block,
     pub arrays: Arrays,
+    pub runs: Runs,
+    /// Those of the block's bytes that its layout does not name, then zeros.
+    pub carried: [u8; MOST_CARRIED],
     pub uninterpreted: [u8; UNINTERPRETED],
 }
 
@@ -422,8 +429,10 @@ fn check_ranges(micros: i32, latitude: i32, frame_index: u16) -> Result<(), Refu
 /// "Record: 11 to 15", with what an accepted record holds.
 pub fn read(record: &[u8]) -> Result<Record, Refusal> {
     let record = accept(record)?;
+    let frame = FRAME_INDEX.get(record);
     Ok(Record {
         fields: fields_of(record),
+        block: Block::of(frame, record),
         arrays: Arrays {
             shots: shots_of(record),
             channels: ChannelArrays {
@@ -433,6 +442,8 @@ pub fn read(record: &[u8]) -> Result<Record, Refusal> {
             xyz: FRAME_XYZ.items(record),
             source_header: PACKET_SOURCE_HEADER.items(record),
         },
+        runs: Runs::of(frame, record),
+        carried: block::carried_of(frame, record),
         uninterpreted: uninterpreted_of(record),
     })
 }
@@ -529,25 +540,33 @@ pub fn read_shot(record: &[u8], shot: usize) -> Result<Shot, Refusal> {
 
 // ---- writing
 
-/// "Refusals: 13 to 15 as they apply to the fields", then "49 for any bits given over their width or uninterpreted bytes not 248, 41 for an output
-/// not of 776 bytes."
+/// "Refusals: 13 to 15 as they apply to the fields", then "49 for any bits given over their width", which "now counts the uninterpreted bytes
+/// outside the block, and is also given for carried block bytes not as many as the given block's layout leaves", "41 for an output not of 776
+/// bytes", and 42 "where block and frame index disagree, after 41". None stands for a block whose frame is none of 1 to 7, which a caller in C can
+/// give: its layout leaves no bytes, and it agrees with no frame index.
 pub fn write(
     fields: Fields,
+    block: Option<Block>,
     arrays: Arrays,
+    runs: Runs,
+    carried: &[u8],
     uninterpreted: &[u8],
     out: &mut [u8],
 ) -> Result<(), Refusal> {
-    check_ranges(
-        fields.time.micros,
-        fields.position.latitude,
-        fields.receiver.frame_index,
-    )?;
-    if !fit(&fields, &arrays.shots.encoder) {
+    let frame_index = fields.receiver.frame_index;
+    check_ranges(fields.time.micros, fields.position.latitude, frame_index)?;
+    let left = block.map_or(0, |block| carried_length(block.frame()));
+    if !fit(&fields, &arrays.shots.encoder) || carried.len() != left {
         return Err(49);
     }
     let uninterpreted: &[u8; UNINTERPRETED] = uninterpreted.try_into().map_err(|_| 49)?;
     let out: &mut [u8; RECORD] = out.try_into().map_err(|_| 41)?;
+    let agrees = |block: &Block| block.frame() == frame_index;
+    let block = block.filter(agrees).ok_or(42)?;
     write_fields(&fields, out);
+    block.set(out);
+    runs.set(frame_index, out);
+    block::set_carried(frame_index, carried, out);
     write_shots(&arrays.shots, out);
     write_descriptor(&fields.descriptor, &arrays.shots.failures, out);
     CHANNEL_BACKGROUND_NOISE_CTS.set_items(arrays.channels.noise, out);
@@ -636,10 +655,14 @@ mod tests {
 
     /// No two bytes of a column alike, in a record that is accepted.
     fn patterned() -> [u8; RECORD] {
+        patterned_of(6)
+    }
+
+    fn patterned_of(frame: u16) -> [u8; RECORD] {
         let mut record = std::array::from_fn(|at| (at * 151 + at / 251) as u8);
         FRAME_TIME_FRAC_SECONDS.set(-123_456, &mut record);
         AREOCENTRIC_LATITUDE.set(87_654_321, &mut record);
-        FRAME_INDEX.set(6, &mut record);
+        FRAME_INDEX.set(frame, &mut record);
         with_quality(&mut record, 0xA5_5AC3, 10);
         record
     }
@@ -652,7 +675,10 @@ mod tests {
         let mut out = [0x77; RECORD];
         write(
             record.fields,
+            Some(record.block),
             record.arrays,
+            record.runs,
+            &record.carried[..carried_length(record.block.frame())],
             &record.uninterpreted,
             &mut out,
         )?;
@@ -716,7 +742,8 @@ mod tests {
             assert_eq!(*start, end);
             end += bytes;
         }
-        assert_eq!(end - 1, FIRST_UNINTERPRETED.start);
+        assert_eq!(end - 1, block::BLOCK.start);
+        assert_eq!(block::BLOCK.end, FIRST_UNINTERPRETED.start);
         assert_eq!(shown(&ENCODER_BITS), (621, "u1".to_string(), 20));
         assert_eq!(FIRST_UNINTERPRETED.end..LAST_UNINTERPRETED.start, 620..640);
         assert_eq!(LAST_UNINTERPRETED.end, RECORD);
@@ -829,7 +856,7 @@ mod tests {
     fn round_trips() {
         let record = patterned();
         let mut given = read(&record).expect("accepted");
-        assert_eq!(given.uninterpreted[111..113], [record[619], record[640]]);
+        assert_eq!(given.uninterpreted[83..85], [record[619], record[640]]);
         given.fields.quality.counter = 99;
         assert_eq!(written(&given), Ok(record));
         given.fields.quality = Quality {
@@ -843,25 +870,50 @@ mod tests {
         assert_eq!(corrected, Ok(given));
     }
 
+    /// "Bytes of the block that a frame's layout does not name are carried beside its fields", and what a frame lacks is ignored.
+    #[test]
+    fn blocks() {
+        for frame in 1..=7 {
+            let record = patterned_of(frame);
+            let mut given = read(&record).expect("accepted");
+            assert_eq!(given.block.frame(), frame);
+            assert_eq!(written(&given), Ok(record));
+            given.runs = with_others(given.runs);
+            assert_eq!(written(&given), Ok(record));
+        }
+    }
+
+    /// The runs of a patterned record with other numbers for the zeros of what its frame lacks.
+    fn with_others(runs: Runs) -> Runs {
+        fn others<const N: usize>(run: [u16; N]) -> [u16; N] {
+            run.map(|number| if number == 0 { 0x5A5A } else { number })
+        }
+        Runs {
+            status_flags: others(runs.status_flags),
+            range_gate_tracker_array: others(runs.range_gate_tracker_array),
+            memory_dump_segment: others(runs.memory_dump_segment),
+            command_echo: others(runs.command_echo),
+        }
+    }
+
     #[test]
     fn refusals() {
         let record = read(&patterned()).expect("accepted");
         let (fields, arrays) = (record.fields, record.arrays);
         let refusal = |fields: Fields, arrays: Arrays, bytes: usize, room: usize| {
-            let mut out = vec![0x77; room];
-            let answer = write(fields, arrays, &vec![0; bytes], &mut out);
-            assert_eq!(answer.is_err(), out.iter().all(|byte| *byte == 0x77));
-            answer.err()
+            let mut given = record;
+            (given.fields, given.arrays) = (fields, arrays);
+            refusal(&given, Some(given.block), 0, bytes, room)
         };
-        assert_eq!(refusal(fields, arrays, 248, 776), None);
-        assert_eq!(refusal(fields, arrays, 248, 775), Some(41));
-        assert_eq!(refusal(fields, arrays, 249, 775), Some(49));
+        assert_eq!(refusal(fields, arrays, 220, 776), None);
+        assert_eq!(refusal(fields, arrays, 220, 775), Some(41));
+        assert_eq!(refusal(fields, arrays, 221, 775), Some(49));
         let mut wide = arrays;
         wide.shots.encoder[19].carried_high = 4;
-        assert_eq!(refusal(fields, wide, 248, 776), Some(49));
+        assert_eq!(refusal(fields, wide, 220, 776), Some(49));
         let mut wrong = fields;
         wrong.quality.good = 1 << 20;
-        assert_eq!(refusal(wrong, arrays, 248, 777), Some(49));
+        assert_eq!(refusal(wrong, arrays, 220, 777), Some(49));
         wrong.receiver.frame_index = 0;
         assert_eq!(refusal(wrong, wide, 0, 0), Some(15));
         wrong.position.latitude = -90_000_001;
@@ -870,6 +922,50 @@ mod tests {
         assert_eq!(refusal(wrong, wide, 0, 0), Some(13));
         wrong = fields;
         wrong.position.ground_latitude = i32::MIN;
-        assert_eq!(refusal(wrong, arrays, 248, 776), None);
+        assert_eq!(refusal(wrong, arrays, 220, 776), None);
+    }
+
+    /// 49 looks at the block's layout and not at the frame index, and 42 comes after 41.
+    #[test]
+    fn blocks_refused() {
+        for index in 1..=7 {
+            let record = read(&patterned_of(index)).expect("accepted");
+            for frame in 1..=7 {
+                let block = read(&patterned_of(frame)).expect("accepted").block;
+                let left = carried_length(frame);
+                let refusal = |carried, room| refusal(&record, Some(block), carried, 220, room);
+                assert_eq!(refusal(left, 776), (frame != index).then_some(42));
+                assert_eq!(refusal(left, 775), Some(41));
+                assert_eq!(refusal(left + 1, 775), Some(49));
+                if carried_length(index) != left {
+                    assert_eq!(refusal(carried_length(index), 776), Some(49));
+                }
+            }
+            assert_eq!(refusal(&record, None, 0, 220, 776), Some(42));
+            assert_eq!(refusal(&record, None, 0, 220, 777), Some(41));
+            assert_eq!(refusal(&record, None, 1, 220, 776), Some(49));
+        }
+    }
+
+    /// Of a write with this block, so many carried and uninterpreted bytes and so long an output. A refusal writes nothing.
+    fn refusal(
+        given: &Record,
+        block: Option<Block>,
+        carried: usize,
+        uninterpreted: usize,
+        room: usize,
+    ) -> Option<Refusal> {
+        let mut out = vec![0x77; room];
+        let answer = write(
+            given.fields,
+            block,
+            given.arrays,
+            given.runs,
+            &vec![0; carried],
+            &vec![0; uninterpreted],
+            &mut out,
+        );
+        assert_eq!(answer.is_err(), out.iter().all(|byte| *byte == 0x77));
+        answer.err()
     }
 }
