@@ -12,7 +12,6 @@ use pedr_c::ArrayNumbers;
 use pedr_c::RecordNumbers;
 use pedr_fields::RecordFields;
 use pedr_shot_c::ShotRead;
-use pedr_writer::RecordWritten;
 use reorder_c_answers::Answer;
 use reorder_c_answers::Count;
 use reorder_c_answers::DESCRIPTION_NUMBERS;
@@ -190,14 +189,7 @@ pub extern "C" fn mola_write_record(
         × (now (out .exit) ≡ pedr_writer.writeBytes fields (blockOfNumbers block (fields .receiver .«frame_index»)) (arraysOfNumbers arrays) runs
         (now (carried .entry)) (now (uninterpreted .entry)) (now (out .entry))) ⌝ }
 {
-    let receiver = fields.receiver;
-    let own = pedr_block_c::block_of(block, receiver.frame_index);
-    let given = pedr_c::arrays_of(arrays);
-    let written = pedr_writer::write_record(fields, own, given, runs, carried, uninterpreted, out);
-    match written {
-        RecordWritten::Refused(n) => n,
-        RecordWritten::Written => 0,
-    }
+    pedr_write_c::write_record(fields, block, arrays, runs, carried, uninterpreted, out)
 }
 
 // Opens the session with this packet at position 0. A refused opening leaves the session as it came.

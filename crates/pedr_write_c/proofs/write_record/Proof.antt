@@ -7,8 +7,8 @@ use Rattle.pedr_write_refusal.specs.Refusal.{writeRefusal}
 use Rattle.pedr_writer.specs.declared.RecordWritten.{RecordWritten}
 use Rattle.pedr_writer.specs.Write.{writtenSaid, writeBytes}
 use borrow.Author.Needs.{needs}
-use Rattle.mola.proofs.mola_write_record.Statement.{statement}
-use Rattle.mola.proofs.mola_write_record.Tie as tie
+use Rattle.pedr_write_c.proofs.write_record.Statement.{statement}
+use Rattle.pedr_write_c.proofs.write_record.Tie as tie
 
 returns : tie.Need-returns
 returns c =
@@ -34,8 +34,8 @@ returns-2 c =
       w .1 ∙ (λ i. writeBytes (a .fields) (d i) (e i) (a .runs) (now (a .carried)) (now (a .uninterpreted)) (now (a .out))),
     )
 
-pub mola-write-record-spec : {M : Type 1} → statement M
-mola-write-record-spec =
+pub write-record-spec : {M : Type 1} → statement M
+write-record-spec =
     tie.close
     (tie.spec
     (λ c κs. search needs)
