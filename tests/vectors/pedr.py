@@ -31,11 +31,14 @@ GROUPS = {
     "receiver": ("channel_mask", "minimum_hits", "hit_count", "frame_counter", "trigger", "frame_index"),
     "packet": ("seconds", "millis", "fine_time"),
 }
+# The runs of the block: their headings, and the names here.
+RUNS = {"flags": "status_flags", "tracker": "range_gate_tracker_array", "dump": "memory_dump_segment", "echo": "command_echo", "carried": "block_carried"}
 LEGEND = (
     "record: time whole micros in_micros, position orbit latitude longitude radial_distance ground_latitude ground_longitude, "
     "quality good carried counter, descriptor packet_sum software_sum mode ots carried, pointing right_ascension declination twist, "
     "ranges mid_point_range frame_radius delay width, receiver channel_mask minimum_hits hit_count frame_counter trigger frame_index, "
-    "packet seconds millis fine_time, xyz, header, digests of the 20 shots, of the 8 channels and of the uninterpreted bytes",
+    "packet seconds millis fine_time, block frame and its single columns in the order of appendices C.3 to C.9, "
+    "flags, tracker, dump and echo of the block, its carried bytes, xyz, header, digests of the 20 shots, of the 8 channels and of the uninterpreted bytes",
     "shot: radius energy reflectivity trigger_channel pulse_width optical_width laser_power, "
     "class_case (0 no trigger, 1 probable ground, 2 unassigned) class_number, encoder start carried_low stop carried_high, "
     "failures power energy range window comparison, good",
@@ -74,14 +77,21 @@ def long_columns(read, full):
     return "".join(in_full) + f"\n  digests{digests}"
 
 
+def accepted_text(fields):
+    """The single columns of an accepted record, and of its block."""
+    frame, of_block = fields["block"]
+    groups = ", ".join(heading + spaced(fields[name] for name in names) for heading, names in GROUPS.items())
+    return f"{groups}, block {frame}{spaced(of_block.values())}"
+
+
 def record_text(record, due, full):
-    """What the reader says of a record; the arrays of a refused one are zeros."""
+    """What the reader says of a record; the arrays, the runs and the carried bytes of a refused one are zeros."""
     number = pedr_record.refusal(record)
     fields = pedr_record.fields(bytes(pedr_record.RECORD_SIZE) if number else record)
-    groups = ", ".join(heading + spaced(fields[name] for name in names) for heading, names in GROUPS.items())
-    said = f"refused {number}" if number else groups
+    said = f"refused {number}" if number else accepted_text(fields)
+    runs = ", ".join(heading + spaced(fields[name]) for heading, name in RUNS.items())
     return (
-        f": {said}, xyz{spaced(fields['xyz'])}, header{spaced(fields['source_header'])}"
+        f": {said}, {runs}, xyz{spaced(fields['xyz'])}, header{spaced(fields['source_header'])}"
         f"{long_columns(fields, full)}{but_due(number, due)}"
     )
 

@@ -11,28 +11,31 @@ LINE = 20
 
 # Whether a record is written, and its bytes are shown too.
 SHOWS = {0: (False, False)} | rows.meanings(PARTS, "SHOW", {"WRITE": (True, False), "FULL": (True, True)})
-# A fill's rule for record byte b, and the bytes that make every fill accepted, but for byte 32.
+# A fill's rule for record byte b, and the bytes that make every fill accepted, but for byte 32, and for byte 492 where a row gives the frame.
 FILLS = rows.meanings(PARTS, "FILL", {
     "ZEROS": lambda b: 0,
     "ONES": lambda b: 255,
     "SPREAD": lambda b: 37 * b + b // 4,
 })
 SET_BYTES = {5: 0, 6: 0, 13: 0, 491: 0, 492: 1}
+FRAME = PARTS["FRAME"] // PARTS["FIELD"]
 # What a row changes: a class, by the row's number; another field, by its name; or a size.
 CLASSES = rows.meanings(PARTS, "FIELD", {"NO_TRIGGER": lambda n: (0, 0), "PROBABLE_GROUND": lambda n: (1, 1), "UNASSIGNED": lambda n: (2, n)})
-FIELDS = rows.meanings(PARTS, "FIELD", {name.upper(): name for name in pedr_record.to_write(bytes(RECORD_SIZE)) if name != "class"})
-SIZES = rows.meanings(PARTS, "FIELD", {"UNINTERPRETED_SIZE": "uninterpreted", "OUTPUT_SIZE": "output"})
-SIGNED_BITS = {name: 8 * int(width) for _, name, sign, width, _ in pedr_record.COLUMNS if sign == "i"}
+NAMES = [name for name in pedr_record.to_write(bytes(RECORD_SIZE)) if name not in ("class", "block")]
+FIELDS = rows.meanings(PARTS, "FIELD", {name.upper(): name for name in NAMES})
+LENT = ("block_carried", "uninterpreted")
+SIZES = rows.meanings(PARTS, "FIELD", {f"{name.upper()}_SIZE": name for name in (*LENT, "output")})
+SIGNED_BITS = {name: 8 * width for _, name, sign, width, _ in pedr_record.COLUMNS if sign == "i"}
 LEGEND = (
-    "write: the answer; of a record that is written the counter as it is read, and what was read is written again; "
-    "digests of both outputs, each with the bytes after it"
+    "write: the answer; of a record that is written the counter as it is read, digests of the block's runs and carried bytes, "
+    "and what was read is written again; digests of both outputs, each with the bytes after it"
 )
 
 
-def filled(rule):
+def filled(rule, frame):
     """A record that is accepted."""
     record = bytearray(rule(b) % 256 for b in range(1, RECORD_SIZE + 1))
-    for b, number in SET_BYTES.items():
+    for b, number in (SET_BYTES | {492: frame}).items():
         record[b - 1] = number
     record[32 - 1] = pedr_record.good_shots(pedr_record.columns(record)["quality"])
     if pedr_record.refusal(record):
@@ -63,13 +66,21 @@ def room_with(record):
     return record + bytes([165] * (ROOM - len(record)))
 
 
+def own_carried(given):
+    """As many carried bytes as the layout of the block leaves."""
+    frame, _ = given["block"]
+    return given["block_carried"][: len(pedr_record.spare_bytes(pedr_record.BLOCKS[frame]))]
+
+
 def written_text(record, given):
-    """What is said of a record that was written. It reads as what was given, the counter aside."""
+    """What is said of a record that was written, and of what it reads as."""
     read = pedr_record.to_write(record)
-    if pedr_record.refusal(record) or read | {"counter": given["counter"]} != given:
+    if pedr_record.refusal(record) or read != pedr_record.read_back(given):
         raise ValueError("what was written does not read as what was given")
-    again = room_with(pedr_record.written(read))
-    return f"written, read back counter {read['counter']}, again {digest(again, LONG)}"
+    runs = digest(sum((read[name] for name in pedr_record.RUNS), []), LONG)
+    carried = digest(read["block_carried"], LONG)
+    again = room_with(pedr_record.written(read | {"block_carried": own_carried(read)}))
+    return f"written, read back counter {read['counter']} runs {runs} carried {carried}, again {digest(again, LONG)}"
 
 
 def byte_lines(room):
@@ -85,6 +96,13 @@ def write_text(given, output_size, due, full):
     return f": {said}{but_due(number, due)}, room {digest(room, LONG)}{byte_lines(room) if full else ''}"
 
 
+def new_given(fill, frame):
+    """What is given by a fill's record of a frame, and how much of it and of the output is lent."""
+    given = pedr_record.to_write(filled(FILLS[fill], frame))
+    sizes = {"block_carried": len(own_carried(given)), "uninterpreted": len(given["uninterpreted"]), "output": RECORD_SIZE}
+    return given, sizes
+
+
 def lines():
     """Each row finds what is given as the last one left it, and may have it written."""
     yield LEGEND
@@ -96,16 +114,15 @@ def lines():
         field, row = divmod(row, PARTS["FIELD"])
         item, bits = divmod(row, PARTS["ITEM"])
         if fill:
-            given = pedr_record.to_write(filled(FILLS[fill]))
-            sizes = {"uninterpreted": len(given["uninterpreted"]), "output": RECORD_SIZE}
+            given, sizes = new_given(fill, bits if field == FRAME else 1)
         if field in SIZES:
             sizes[SIZES[field]] = bits
-        elif field:
+        elif field and not (fill and field == FRAME):
             change(given, field, item, bits)
         shown, full = SHOWS[show]
         if shown:
-            lent = (given["uninterpreted"] + [0] * ROOM)[: sizes["uninterpreted"]]
-            yield f"write {i}" + write_text(given | {"uninterpreted": lent}, sizes["output"], due, full)
+            lent = {name: (given[name] + [0] * ROOM)[: sizes[name]] for name in LENT}
+            yield f"write {i}" + write_text(given | lent, sizes["output"], due, full)
 
 
 if __name__ == "__main__":

@@ -4,7 +4,7 @@
 
 pub const DUE: u64 = 10_000_000_000_000_000; // times the refusal that is due, of the record or of the shot; 0 where none is
 
-// The record is read. READ prints its single columns and digests of the long ones, FULL the long ones too.
+// The record is read. READ prints its single columns, the block with its runs and carried bytes, and digests of the long columns, FULL the long ones too.
 pub const SHOW: u64 = 1_000_000_000_000_000;
 
 pub const READ: u64 = 1 * SHOW;
@@ -45,7 +45,7 @@ pub const NEGATIVE: u64 = 4_294_967_296;
 
 pub const NEGATIVE2: u64 = 65_536;
 
-pub const COUNT: usize = 324;
+pub const COUNT: usize = 424;
 
 const CASES: [u64; COUNT] = [
     // The fills in full, and some of their shots.
@@ -65,7 +65,7 @@ const CASES: [u64; COUNT] = [
     SHOT + 20,
     // Bytes that are not interpreted: but for their digest, the answer stays that of the fill.
     COUNTING + READ,
-    COUNTING + READ + FLIP + 509 * BYTE + 7,
+    COUNTING + READ + FLIP + 537 * BYTE + 7,
     COUNTING + READ + FLIP + 620 * BYTE + 7,
     COUNTING + READ + FLIP + 641 * BYTE + 7,
     COUNTING + READ + FLIP + 776 * BYTE + 7,
@@ -391,6 +391,112 @@ const CASES: [u64; COUNT] = [
     PUT2 + 487 * BYTE + 32_768, // frame counter
     PUT2 + 489 * BYTE + 32_768, // trigger
     READ + PUT2 + 507 * BYTE + 32_768, // fine time
+    // The engineering block of each frame, of the fills.
+    COUNTING + READ + PUT2 + 491 * BYTE + 1,
+    COUNTING + READ + PUT2 + 491 * BYTE + 2,
+    COUNTING + READ + PUT2 + 491 * BYTE + 3,
+    COUNTING + READ + PUT2 + 491 * BYTE + 4,
+    COUNTING + READ + PUT2 + 491 * BYTE + 5,
+    COUNTING + READ + PUT2 + 491 * BYTE + 6,
+    COUNTING + READ + PUT2 + 491 * BYTE + 7,
+    STRIDING + READ + PUT2 + 491 * BYTE + 1,
+    STRIDING + READ + PUT2 + 491 * BYTE + 2,
+    STRIDING + READ + PUT2 + 491 * BYTE + 3,
+    STRIDING + READ + PUT2 + 491 * BYTE + 4,
+    STRIDING + READ + PUT2 + 491 * BYTE + 5,
+    STRIDING + READ + PUT2 + 491 * BYTE + 6,
+    STRIDING + READ + PUT2 + 491 * BYTE + 7,
+    ONES + READ + PUT2 + 491 * BYTE + 1,
+    ONES + READ + PUT2 + 491 * BYTE + 2,
+    ONES + READ + PUT2 + 491 * BYTE + 3,
+    ONES + READ + PUT2 + 491 * BYTE + 4,
+    ONES + READ + PUT2 + 491 * BYTE + 5,
+    ONES + READ + PUT2 + 491 * BYTE + 6,
+    ONES + READ + PUT2 + 491 * BYTE + 7,
+    // The same of bytes that rise from 0x81 on.
+    ZEROS + PUT4 + 509 * BYTE + 0x81828384,
+    PUT4 + 513 * BYTE + 0x85868788,
+    PUT4 + 517 * BYTE + 0x898A8B8C,
+    PUT4 + 521 * BYTE + 0x8D8E8F90,
+    PUT4 + 525 * BYTE + 0x91929394,
+    PUT4 + 529 * BYTE + 0x95969798,
+    PUT4 + 533 * BYTE + 0x999A9B9C,
+    READ + PUT2 + 491 * BYTE + 1,
+    READ + PUT2 + 491 * BYTE + 2,
+    READ + PUT2 + 491 * BYTE + 3,
+    READ + PUT2 + 491 * BYTE + 4,
+    READ + PUT2 + 491 * BYTE + 5,
+    READ + PUT2 + 491 * BYTE + 6,
+    READ + PUT2 + 491 * BYTE + 7,
+    // Temperatures: -1, the lowest and the highest number in turn, then small ones.
+    ZEROS + PUT4 + 509 * BYTE + 0xFFFF8000,
+    PUT4 + 513 * BYTE + 0x7FFFFFFF,
+    PUT4 + 517 * BYTE + 0x80007FFF,
+    PUT4 + 521 * BYTE + 0xFFFF8000,
+    PUT4 + 525 * BYTE + 0x7FFFFFFF,
+    PUT4 + 529 * BYTE + 0x80007FFF,
+    READ + PUT4 + 533 * BYTE + 0xFFFF8000,
+    READ + PUT2 + 491 * BYTE + 2,
+    READ + PUT4 + 509 * BYTE + 0x80007FFF,
+    READ + PUT4 + 509 * BYTE + 0xFF0000FF,
+    READ + PUT2 + 491 * BYTE + 1,
+    // The block's first and last bytes, and their neighbours.
+    COUNTING + PUT2 + 491 * BYTE + 4,
+    READ + FLIP + 508 * BYTE + 7,
+    READ + FLIP + 509 * BYTE + 7,
+    READ + FLIP + 536 * BYTE + 7,
+    READ + FLIP + 537 * BYTE + 7,
+    COUNTING + PUT2 + 491 * BYTE + 7,
+    READ + FLIP + 508 * BYTE + 7,
+    READ + FLIP + 509 * BYTE + 7,
+    READ + FLIP + 536 * BYTE + 7,
+    READ + FLIP + 537 * BYTE + 7,
+    // Bytes at both sides of where the carried ones and the runs begin and end.
+    ZEROS + PUT2 + 491 * BYTE + 3,
+    READ + FLIP + 516 * BYTE + 0,
+    READ + FLIP + 517 * BYTE + 0,
+    READ + FLIP + 520 * BYTE + 0,
+    READ + FLIP + 521 * BYTE + 0,
+    READ + FLIP + 526 * BYTE + 0,
+    READ + FLIP + 527 * BYTE + 0,
+    READ + FLIP + 528 * BYTE + 0,
+    READ + FLIP + 529 * BYTE + 0,
+    ZEROS + PUT2 + 491 * BYTE + 5,
+    READ + FLIP + 520 * BYTE + 0,
+    READ + FLIP + 521 * BYTE + 0,
+    READ + FLIP + 524 * BYTE + 0,
+    READ + FLIP + 525 * BYTE + 0,
+    READ + FLIP + 528 * BYTE + 0,
+    READ + FLIP + 529 * BYTE + 0,
+    READ + FLIP + 530 * BYTE + 0,
+    READ + FLIP + 531 * BYTE + 0,
+    ZEROS + PUT2 + 491 * BYTE + 6,
+    READ + FLIP + 518 * BYTE + 0,
+    READ + FLIP + 519 * BYTE + 0,
+    READ + FLIP + 534 * BYTE + 0,
+    READ + FLIP + 535 * BYTE + 0,
+    ZEROS + PUT2 + 491 * BYTE + 7,
+    READ + FLIP + 516 * BYTE + 0,
+    READ + FLIP + 517 * BYTE + 0,
+    READ + FLIP + 520 * BYTE + 0,
+    READ + FLIP + 521 * BYTE + 0,
+    READ + FLIP + 530 * BYTE + 0,
+    READ + FLIP + 531 * BYTE + 0,
+    READ + FLIP + 536 * BYTE + 0,
+    // Refused records with a block.
+    COUNTING + PUT2 + 491 * BYTE + 7,
+    11 * DUE + READ + LENGTH + 536,
+    COUNTING + PUT2 + 491 * BYTE + 3,
+    12 * DUE + READ + FLIP + 32 * BYTE + 0,
+    COUNTING + PUT2 + 491 * BYTE + 4,
+    13 * DUE + READ + PUT4 + 5 * BYTE + 1_000_000,
+    COUNTING + PUT2 + 491 * BYTE + 5,
+    14 * DUE + READ + PUT4 + 13 * BYTE + 90_000_001,
+    15 * DUE + COUNTING + READ + PUT2 + 491 * BYTE + 0,
+    15 * DUE + COUNTING + READ + PUT2 + 491 * BYTE + 8,
+    15 * DUE + COUNTING + READ + PUT2 + 491 * BYTE + 0x0103,
+    15 * DUE + COUNTING + READ + PUT2 + 491 * BYTE + 0x0600,
+    15 * DUE + COUNTING + READ + PUT2 + 491 * BYTE + 0x0700,
 ];
 
 // Row i, from 0; past the end, 0.

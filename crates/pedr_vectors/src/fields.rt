@@ -16,7 +16,8 @@ pub(crate) fn legend() {
         ground_longitude, quality good carried counter, descriptor packet_sum software_sum mode ots carried, \
         pointing right_ascension declination twist, ranges mid_point_range frame_radius delay width, \
         receiver channel_mask minimum_hits hit_count frame_counter trigger frame_index, \
-        packet seconds millis fine_time, xyz, header, \
+        packet seconds millis fine_time, block frame and its single columns in the order of appendices C.3 to C.9, \
+        flags, tracker, dump and echo of the block, its carried bytes, xyz, header, \
         digests of the 20 shots, of the 8 channels and of the uninterpreted bytes\n\
         shot: radius energy reflectivity trigger_channel pulse_width optical_width laser_power, \
         class_case (0 no trigger, 1 probable ground, 2 unassigned) class_number, \

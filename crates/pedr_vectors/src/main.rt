@@ -3,6 +3,7 @@
 // rows with this one.
 mod cases;
 mod fields;
+mod frames;
 mod reads;
 mod record;
 mod rows;

@@ -1,11 +1,14 @@
 // Records and shots that are read, one line each.
 use crate::cases;
 use crate::fields;
+use crate::frames;
 use crate::rows;
 use crate::shots;
 use crate::show;
 use pedr::RecordAnswer;
 use pedr_arrays::RecordArrays;
+use pedr_block::Block;
+use pedr_fields::RecordFields;
 use pedr_layout::UNINTERPRETED;
 use pedr_shot::ShotAnswer;
 use pedr_shot::ShotFields;
@@ -46,16 +49,24 @@ fn show_arrays(arrays: RecordArrays, uninterpreted: [u8; UNINTERPRETED], full: b
     show::entry(show::digest(&uninterpreted));
 }
 
+fn accepted(f: RecordFields, block: Block) {
+    fields::show_fields(f);
+    frames::show_block(block);
+}
+
 fn read(row: u64, bytes: &[u8]) {
     let full = rows::show(row) == cases::FULL;
     let record = pedr::read_record(bytes);
     let answer = record.answer;
     let arrays = record.arrays;
+    let runs = record.runs;
+    let carried = record.carried;
     let uninterpreted = record.uninterpreted;
     match answer {
         RecordAnswer::Refused(n) => refused(n),
-        RecordAnswer::Accepted(f) => fields::show_fields(f),
+        RecordAnswer::Accepted(f, block) => accepted(f, block),
     }
+    frames::show_runs(runs, carried);
     show_arrays(arrays, uninterpreted, full);
     show::check(pedr::refusal_number(answer), row / cases::DUE);
 }

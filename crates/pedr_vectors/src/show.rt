@@ -14,6 +14,23 @@ pub(crate) fn entry_32(n: u32) {
     entry(n as u64);
 }
 
+// As many entries as there are numbers, of each width.
+pub(crate) fn entries_16(numbers: &[u16]) {
+    let mut k = 0;
+    while k < numbers.len() {
+        entry(wide_16(numbers[k]));
+        k = k + 1;
+    }
+}
+
+pub(crate) fn entries_8(numbers: &[u8]) {
+    let mut k = 0;
+    while k < numbers.len() {
+        entry(wide(numbers[k]));
+        k = k + 1;
+    }
+}
+
 // How far a number is from zero.
 fn magnitude(n: i64) -> u64 {
     if n < 0 { (-1 - n) as u64 + 1 } else { n as u64 }
@@ -61,6 +78,10 @@ pub(crate) fn digested(digest: u64, numbers: &[u64], shown: bool) -> u64 {
 }
 
 fn wide(n: u8) -> u64 {
+    n as u64
+}
+
+fn wide_16(n: u16) -> u64 {
     n as u64
 }
 

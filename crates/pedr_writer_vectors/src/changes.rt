@@ -6,6 +6,7 @@ use pedr_arrays::ChannelArrays;
 use pedr_arrays::RecordArrays;
 use pedr_arrays::ShotArrays;
 use pedr_arrays::ShotClass;
+use pedr_block_runs::BlockRuns;
 use pedr_fields::FrameTime;
 use pedr_fields::OrbitPosition;
 use pedr_fields::PacketLink;
@@ -263,6 +264,45 @@ fn arrays(a: RecordArrays, field: u64, k: usize, n: u64) -> RecordArrays {
     }
 }
 
+// The runs of the block.
+fn runs(r: BlockRuns, field: u64, k: usize, n: u64) -> BlockRuns {
+    let mut to = r;
+    match field {
+        cases::STATUS_FLAGS => {
+            if k < 2 {
+                to.status_flags[k] = low_16(n);
+            }
+        }
+        cases::RANGE_GATE_TRACKER_ARRAY => {
+            if k < 14 {
+                to.range_gate_tracker_array[k] = low_16(n);
+            }
+        }
+        cases::MEMORY_DUMP_SEGMENT => {
+            if k < 5 {
+                to.memory_dump_segment[k] = low_16(n);
+            }
+        }
+        cases::COMMAND_ECHO => {
+            if k < 8 {
+                to.command_echo[k] = low_16(n);
+            }
+        }
+        _ => {}
+    }
+    to
+}
+
+fn carried(bytes: [u8; 16], field: u64, k: usize, n: u64) -> [u8; 16] {
+    let mut to = bytes;
+    if field == cases::BLOCK_CARRIED {
+        if k < 16 {
+            to[k] = low_8(n);
+        }
+    }
+    to
+}
+
 fn uninterpreted(bytes: [u8; 256], field: u64, k: usize, n: u64) -> [u8; 256] {
     let mut to = bytes;
     if field == cases::UNINTERPRETED {
@@ -282,10 +322,16 @@ pub(crate) fn changed(g: Given, row: u64) -> Given {
     let field = rows::field(row);
     let k = rows::item(row);
     let n = rows::number(row);
+    let block = g.block;
+    let spare = g.carried;
     let bytes = g.uninterpreted;
     Given {
         fields: fields(g.fields, field, n),
+        block,
         arrays: arrays(g.arrays, field, k, n),
+        runs: runs(g.runs, field, k, n),
+        carried: carried(spare, field, k, n),
+        carried_size: size(g.carried_size, field == cases::BLOCK_CARRIED_SIZE, n),
         uninterpreted: uninterpreted(bytes, field, k, n),
         uninterpreted_size: size(g.uninterpreted_size, field == cases::UNINTERPRETED_SIZE, n),
         output_size: size(g.output_size, field == cases::OUTPUT_SIZE, n),

@@ -9,13 +9,13 @@ mod writes;
 
 // The first n rows in turn; each finds the fields as the last one left them.
 fn run_all(n: usize) {
-    let mut g = given::filled_record(cases::ZEROS);
+    let mut g = given::filled_record(cases::ZEROS, 1);
     let mut i = 0;
     while i < n {
         let row = cases::row(i);
         let fill = rows::fill(row);
         if fill != 0 {
-            g = given::filled_record(fill);
+            g = given::filled_record(fill, rows::frame(row));
         }
         g = changes::changed(g, row);
         if rows::show(row) != 0 {
@@ -27,8 +27,8 @@ fn run_all(n: usize) {
 
 fn legend() {
     show::text(
-        b"write: the answer; of a record that is written the counter as it is read, and what was read is written again; \
-        digests of both outputs, each with the bytes after it\n",
+        b"write: the answer; of a record that is written the counter as it is read, digests of the block's runs and carried bytes, \
+        and what was read is written again; digests of both outputs, each with the bytes after it\n",
     );
 }
 

@@ -47,3 +47,18 @@ pub(crate) fn digest(bytes: &[u8]) -> u64 {
     }
     made
 }
+
+fn wide(n: u16) -> u64 {
+    n as u64
+}
+
+// The same, taken on by more numbers.
+pub(crate) fn digested(digest: u64, numbers: &[u16]) -> u64 {
+    let mut made = digest;
+    let mut k = 0;
+    while k < numbers.len() {
+        made = (made % 4294967291 * 257 + wide(numbers[k]) % 65536) % 4294967291;
+        k = k + 1;
+    }
+    made
+}

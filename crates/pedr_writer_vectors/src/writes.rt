@@ -5,7 +5,10 @@ use crate::rows;
 use crate::show;
 use pedr::RecordAnswer;
 use pedr_arrays::RecordArrays;
+use pedr_block::Block;
+use pedr_block_runs::BlockRuns;
 use pedr_fields::RecordFields;
+use pedr_layout::CARRIED;
 use pedr_layout::RECORD_SIZE;
 use pedr_layout::UNINTERPRETED;
 use pedr_writer::RecordWritten;
@@ -15,15 +18,52 @@ fn show_room(name: &[u8], room: &[u8; 800]) {
     show::entry(show::digest(room));
 }
 
-// What the reader made of an output, written into a room of its own.
-fn write_again(f: RecordFields, arrays: RecordArrays, uninterpreted: [u8; UNINTERPRETED]) {
-    let mut room = [165; 800];
-    let quality = f.quality;
+fn runs_digest(runs: BlockRuns) -> u64 {
+    let flags = runs.status_flags;
+    let tracker = runs.range_gate_tracker_array;
+    let dump = runs.memory_dump_segment;
+    let echo = runs.command_echo;
+    let of_flags = show::digested(1, &flags);
+    let and_tracker = show::digested(of_flags, &tracker);
+    let and_dump = show::digested(and_tracker, &dump);
+    show::digested(and_dump, &echo)
+}
+
+// The counter of a record that was read, and digests of the block's runs and carried bytes.
+fn show_read(counter: u8, runs: BlockRuns, carried: &[u8; CARRIED]) {
     show::text(b" counter");
-    show::entry(quality.counter as u64);
-    let answer = pedr_writer::write_record(f, arrays, &uninterpreted, &mut room[0..RECORD_SIZE]);
-    if let RecordWritten::Refused(n) = answer {
-        show::refused(n);
+    show::entry(counter as u64);
+    show::text(b" runs");
+    show::entry(runs_digest(runs));
+    show::text(b" carried");
+    show::entry(show::digest(carried));
+}
+
+// What the reader made of an output, written into a room of its own.
+fn write_again(
+    f: RecordFields,
+    block: Block,
+    arrays: RecordArrays,
+    runs: BlockRuns,
+    carried: &[u8; CARRIED],
+    uninterpreted: [u8; UNINTERPRETED],
+) {
+    let mut room = [165; 800];
+    let bytes = &carried[..];
+    let count = pedr_block::carried_count(block);
+    if count <= bytes.len() {
+        let answer = pedr_writer::write_record(
+            f,
+            block,
+            arrays,
+            runs,
+            &bytes[0..count],
+            &uninterpreted,
+            &mut room[0..RECORD_SIZE],
+        );
+        if let RecordWritten::Refused(n) = answer {
+            show::refused(n);
+        }
     }
     show_room(b", again", &room);
 }
@@ -32,11 +72,17 @@ fn read_back(out: &[u8]) {
     let record = pedr::read_record(out);
     let answer = record.answer;
     let arrays = record.arrays;
+    let runs = record.runs;
+    let carried = record.carried;
     let uninterpreted = record.uninterpreted;
     show::text(b" written, read back");
     match answer {
         RecordAnswer::Refused(n) => show::refused(n),
-        RecordAnswer::Accepted(f) => write_again(f, arrays, uninterpreted),
+        RecordAnswer::Accepted(f, block) => {
+            let quality = f.quality;
+            show_read(quality.counter, runs, &carried);
+            write_again(f, block, arrays, runs, &carried, uninterpreted);
+        }
     }
 }
 
@@ -50,11 +96,33 @@ fn written(out: &[u8], row: u64) {
     show::check(0, row / cases::DUE);
 }
 
-fn judge(row: u64, g: Given, uninterpreted: &[u8], out: &mut [u8]) {
-    let answer = pedr_writer::write_record(g.fields, g.arrays, uninterpreted, out);
+fn judge(row: u64, g: Given, carried: &[u8], uninterpreted: &[u8], out: &mut [u8]) {
+    let block = g.block;
+    let answer = pedr_writer::write_record(
+        g.fields,
+        block,
+        g.arrays,
+        g.runs,
+        carried,
+        uninterpreted,
+        out,
+    );
     match answer {
         RecordWritten::Refused(n) => refused(n, row),
         RecordWritten::Written => written(out, row),
+    }
+}
+
+// The same with as many carried and uninterpreted bytes as are lent.
+fn lend(row: u64, g: Given, carried: &[u8; 16], uninterpreted: &[u8; 256], out: &mut [u8]) {
+    let spare = &carried[..];
+    let bytes = &uninterpreted[..];
+    let spare_size = g.carried_size;
+    let size = g.uninterpreted_size;
+    if spare_size <= spare.len() {
+        if size <= bytes.len() {
+            judge(row, g, &spare[0..spare_size], &bytes[0..size], out);
+        }
     }
 }
 
@@ -68,17 +136,14 @@ fn end_line(row: u64, room: &[u8; 800]) {
 
 pub(crate) fn write(i: usize, row: u64, g: Given) {
     let mut room = [165; 800];
+    let carried = g.carried;
     let uninterpreted = g.uninterpreted;
-    let bytes = &uninterpreted[..];
-    let lent = g.uninterpreted_size;
     let size = g.output_size;
     show::text(b"write");
     show::entry(i as u64);
     show::text(b":");
-    if lent <= bytes.len() {
-        if size <= 800 {
-            judge(row, g, &bytes[0..lent], &mut room[0..size]);
-        }
+    if size <= 800 {
+        lend(row, g, &carried, &uninterpreted, &mut room[0..size]);
     }
     end_line(row, &room);
 }

@@ -5,10 +5,10 @@ use Rattle.pedr_writer_vectors.proofs.given.filled.Statement.{statement
 use Rattle.pedr_writer_vectors.proofs.given.filled.Tie as tie
 
 abbrev Inv-loop : tie.InvT-loop
-Inv-loop fill bytes₀ k₀ bytes k = k ≤ 776
+Inv-loop fill frame bytes₀ k₀ bytes k = k ≤ 776
 
 abbrev μ-loop : tie.MeasureT-loop
-μ-loop fill bytes₀ k₀ bytes k = 776 - k
+μ-loop fill frame bytes₀ k₀ bytes k = 776 - k
 
 pub filled-spec : {M : Type 1} → statement M
 filled-spec =
