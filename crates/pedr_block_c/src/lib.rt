@@ -131,6 +131,28 @@ pub fn no_block() -> BlockNumbers
     }
 }
 
+fn numbers(
+    frame: u32,
+    frame_1: Frame1Fields,
+    frame_2: Frame2Fields,
+    frame_3: Frame3Fields,
+    frame_5: Frame5Fields,
+    frame_6: Frame6Fields,
+    frame_7: Frame7Fields,
+) -> BlockNumbers
+    ensures { λ r. ⌜ r ≡ record { frame = frame; «frame_1» = «frame_1»; «frame_2» = «frame_2»; «frame_3» = «frame_3»; «frame_5» = «frame_5»; «frame_6» = «frame_6»; «frame_7» = «frame_7» } ⌝ }
+{
+    BlockNumbers {
+        frame,
+        frame_1,
+        frame_2,
+        frame_3,
+        frame_5,
+        frame_6,
+        frame_7,
+    }
+}
+
 // The numbers of a block.
 pub fn block_numbers(block: Block) -> BlockNumbers
     ensures { λ r. ⌜ r ≡ blockNumbers block ⌝ }
@@ -142,69 +164,13 @@ pub fn block_numbers(block: Block) -> BlockNumbers
     let frame_6 = no_frame_6();
     let frame_7 = no_frame_7();
     match block {
-        Block::Frame1(fields) => BlockNumbers {
-            frame: 1,
-            frame_1: fields,
-            frame_2,
-            frame_3,
-            frame_5,
-            frame_6,
-            frame_7,
-        },
-        Block::Frame2(fields) => BlockNumbers {
-            frame: 2,
-            frame_1,
-            frame_2: fields,
-            frame_3,
-            frame_5,
-            frame_6,
-            frame_7,
-        },
-        Block::Frame3(fields) => BlockNumbers {
-            frame: 3,
-            frame_1,
-            frame_2,
-            frame_3: fields,
-            frame_5,
-            frame_6,
-            frame_7,
-        },
-        Block::Frame4(_) => BlockNumbers {
-            frame: 4,
-            frame_1,
-            frame_2,
-            frame_3,
-            frame_5,
-            frame_6,
-            frame_7,
-        },
-        Block::Frame5(fields) => BlockNumbers {
-            frame: 5,
-            frame_1,
-            frame_2,
-            frame_3,
-            frame_5: fields,
-            frame_6,
-            frame_7,
-        },
-        Block::Frame6(fields) => BlockNumbers {
-            frame: 6,
-            frame_1,
-            frame_2,
-            frame_3,
-            frame_5,
-            frame_6: fields,
-            frame_7,
-        },
-        Block::Frame7(fields) => BlockNumbers {
-            frame: 7,
-            frame_1,
-            frame_2,
-            frame_3,
-            frame_5,
-            frame_6,
-            frame_7: fields,
-        },
+        Block::Frame1(fields) => numbers(1, fields, frame_2, frame_3, frame_5, frame_6, frame_7),
+        Block::Frame2(fields) => numbers(2, frame_1, fields, frame_3, frame_5, frame_6, frame_7),
+        Block::Frame3(fields) => numbers(3, frame_1, frame_2, fields, frame_5, frame_6, frame_7),
+        Block::Frame4(_) => numbers(4, frame_1, frame_2, frame_3, frame_5, frame_6, frame_7),
+        Block::Frame5(fields) => numbers(5, frame_1, frame_2, frame_3, fields, frame_6, frame_7),
+        Block::Frame6(fields) => numbers(6, frame_1, frame_2, frame_3, frame_5, fields, frame_7),
+        Block::Frame7(fields) => numbers(7, frame_1, frame_2, frame_3, frame_5, frame_6, fields),
     }
 }
 

@@ -28,8 +28,7 @@ pub fn write_record(
     let receiver = fields.receiver;
     let own = pedr_block_c::block_of(block, receiver.frame_index);
     let given = pedr_c::arrays_of(arrays);
-    let written =
-        pedr_writer::write_record(fields, own, given, runs, carried, uninterpreted, out);
+    let written = pedr_writer::write_record(fields, own, given, runs, carried, uninterpreted, out);
     match written {
         RecordWritten::Refused(n) => n,
         RecordWritten::Written => 0,
