@@ -99,7 +99,8 @@ pub enum Block {
     Frame7(Frame7Fields),
 }
 
-fn read_frame_1(bytes: &[u8]) -> Frame1Fields
+// The fields of each frame, read of any bytes, whatever their frame index.
+pub fn read_frame_1(bytes: &[u8]) -> Frame1Fields
     ensures { λ r. ⌜ r ≡ frame1Of (now (bytes .entry)) ⌝ }
 {
     Frame1Fields {
@@ -120,7 +121,7 @@ fn read_frame_1(bytes: &[u8]) -> Frame1Fields
     }
 }
 
-fn read_frame_2(bytes: &[u8]) -> Frame2Fields
+pub fn read_frame_2(bytes: &[u8]) -> Frame2Fields
     ensures { λ r. ⌜ r ≡ frame2Of (now (bytes .entry)) ⌝ }
 {
     Frame2Fields {
@@ -141,7 +142,7 @@ fn read_frame_2(bytes: &[u8]) -> Frame2Fields
     }
 }
 
-fn read_frame_3(bytes: &[u8]) -> Frame3Fields
+pub fn read_frame_3(bytes: &[u8]) -> Frame3Fields
     ensures { λ r. ⌜ r ≡ frame3Of (now (bytes .entry)) ⌝ }
 {
     Frame3Fields {
@@ -158,7 +159,7 @@ fn read_frame_3(bytes: &[u8]) -> Frame3Fields
     }
 }
 
-fn read_frame_5(bytes: &[u8]) -> Frame5Fields
+pub fn read_frame_5(bytes: &[u8]) -> Frame5Fields
     ensures { λ r. ⌜ r ≡ frame5Of (now (bytes .entry)) ⌝ }
 {
     Frame5Fields {
@@ -167,7 +168,7 @@ fn read_frame_5(bytes: &[u8]) -> Frame5Fields
     }
 }
 
-fn read_frame_6(bytes: &[u8]) -> Frame6Fields
+pub fn read_frame_6(bytes: &[u8]) -> Frame6Fields
     ensures { λ r. ⌜ r ≡ frame6Of (now (bytes .entry)) ⌝ }
 {
     Frame6Fields {
@@ -175,7 +176,7 @@ fn read_frame_6(bytes: &[u8]) -> Frame6Fields
     }
 }
 
-fn read_frame_7(bytes: &[u8]) -> Frame7Fields
+pub fn read_frame_7(bytes: &[u8]) -> Frame7Fields
     ensures { λ r. ⌜ r ≡ frame7Of (now (bytes .entry)) ⌝ }
 {
     Frame7Fields {

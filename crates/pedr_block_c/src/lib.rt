@@ -7,9 +7,11 @@ use pedr_block::Frame4Fields;
 use pedr_block::Frame5Fields;
 use pedr_block::Frame6Fields;
 use pedr_block::Frame7Fields;
+use pedr_layout::FRAME_INDEX_AT;
 ghost use mathlib.Core.Path.{_≡_};
 ghost use mathlib.Core.Bool.{cond};
 ghost use lib.Dec.{eqb};
+ghost use Rattle.pedr_block.specs.Block.{blockOf};
 ghost use Rattle.pedr_block_c.specs.Numbers.{noFrame1, noFrame2, noFrame3, noFrame5, noFrame6, noFrame7, noBlock, blockNumbers, blockOfNumbers};
 
 // The frame, 1 to 7, or 0 where there is none, and the fields of each frame that has some. Those of the other frames are zeros where they are given, and are
@@ -153,9 +155,9 @@ fn numbers(
     }
 }
 
-// The numbers of a block.
-pub fn block_numbers(block: Block) -> BlockNumbers
-    ensures { λ r. ⌜ r ≡ blockNumbers block ⌝ }
+// Reads the block of any bytes, by their frame index, in numbers.
+pub fn read_block(bytes: &[u8]) -> BlockNumbers
+    ensures { λ r. ⌜ r ≡ blockNumbers (blockOf (now (bytes .entry))) ⌝ }
 {
     let frame_1 = no_frame_1();
     let frame_2 = no_frame_2();
@@ -163,14 +165,63 @@ pub fn block_numbers(block: Block) -> BlockNumbers
     let frame_5 = no_frame_5();
     let frame_6 = no_frame_6();
     let frame_7 = no_frame_7();
-    match block {
-        Block::Frame1(fields) => numbers(1, fields, frame_2, frame_3, frame_5, frame_6, frame_7),
-        Block::Frame2(fields) => numbers(2, frame_1, fields, frame_3, frame_5, frame_6, frame_7),
-        Block::Frame3(fields) => numbers(3, frame_1, frame_2, fields, frame_5, frame_6, frame_7),
-        Block::Frame4(_) => numbers(4, frame_1, frame_2, frame_3, frame_5, frame_6, frame_7),
-        Block::Frame5(fields) => numbers(5, frame_1, frame_2, frame_3, fields, frame_6, frame_7),
-        Block::Frame6(fields) => numbers(6, frame_1, frame_2, frame_3, frame_5, fields, frame_7),
-        Block::Frame7(fields) => numbers(7, frame_1, frame_2, frame_3, frame_5, frame_6, fields),
+    let frame = octets::u16_at(bytes, FRAME_INDEX_AT);
+    match frame {
+        1 => numbers(
+            1,
+            pedr_block::read_frame_1(bytes),
+            frame_2,
+            frame_3,
+            frame_5,
+            frame_6,
+            frame_7,
+        ),
+        2 => numbers(
+            2,
+            frame_1,
+            pedr_block::read_frame_2(bytes),
+            frame_3,
+            frame_5,
+            frame_6,
+            frame_7,
+        ),
+        3 => numbers(
+            3,
+            frame_1,
+            frame_2,
+            pedr_block::read_frame_3(bytes),
+            frame_5,
+            frame_6,
+            frame_7,
+        ),
+        4 => numbers(4, frame_1, frame_2, frame_3, frame_5, frame_6, frame_7),
+        5 => numbers(
+            5,
+            frame_1,
+            frame_2,
+            frame_3,
+            pedr_block::read_frame_5(bytes),
+            frame_6,
+            frame_7,
+        ),
+        6 => numbers(
+            6,
+            frame_1,
+            frame_2,
+            frame_3,
+            frame_5,
+            pedr_block::read_frame_6(bytes),
+            frame_7,
+        ),
+        _ => numbers(
+            7,
+            frame_1,
+            frame_2,
+            frame_3,
+            frame_5,
+            frame_6,
+            pedr_block::read_frame_7(bytes),
+        ),
     }
 }
 

@@ -258,7 +258,7 @@ pub fn read_record(bytes: &[u8]) -> RecordNumbers
     let carried = pedr_block_runs::read_carried(bytes);
     let runs = pedr_block_runs::read_runs(bytes);
     let arrays = read_arrays(bytes);
-    let block = pedr_block_c::block_numbers(pedr_block::read_block(bytes));
+    let block = pedr_block_c::read_block(bytes);
     let fields = pedr_fields::read_fields(bytes);
     RecordNumbers {
         refusal: 0,

@@ -24,22 +24,21 @@ returns c =
 
 returns-2 : tie.Need-returns-2
 returns-2 c =
-    let b = c .before .before .before .before .before .before .before in
+    let b = c .before .before .before .before .before .before in
     let s = now (b .before .before .before .args .bytes) in
     let z = sym (b .before .record-refusal .ensures) ∙ b .if1 .left in
     let f = c .read-fields .ensures in
-    let k = c .before .before .read-block .ensures in
-    let d = say-answered {A = RecordFields × Block} _ (fieldsOf s, blockOf s) (c .read-fields .result, c .before .before .read-block .result) z (λ i. (f i, k i)) in
-    let n = c .before .block-numbers .ensures in
-    let a = c .before .before .before .read-arrays .ensures ∙ ap arrayNumbers (after-done _ (arraysOf s) noArrays _ z refl) in
+    let d = say-answered {A = RecordFields × Block} _ (fieldsOf s, blockOf s) (c .read-fields .result, blockOf s) z (λ i. (f i, blockOf s)) in
+    let n = c .before .read-block .ensures in
+    let a = c .before .before .read-arrays .ensures ∙ ap arrayNumbers (after-done _ (arraysOf s) noArrays _ z refl) in
     λ i. record {
       refusal = ap refusalIn d i;
       fields = ap fieldsIn d i;
       block = (n ∙ ap blockIn d) i;
       arrays = a i;
-      runs = after-done _ (runsOf s) noRuns _ z (c .before .before .before .before .read-runs .ensures) i;
-      carried = after-done _ (carriedOf s) noCarried _ z (c .before .before .before .before .before .read-carried .ensures) i;
-      uninterpreted = after-done _ (uninterpretedOf s) noUninterpreted _ z (c .before .before .before .before .before .before .read-uninterpreted .ensures) i;
+      runs = after-done _ (runsOf s) noRuns _ z (c .before .before .before .read-runs .ensures) i;
+      carried = after-done _ (carriedOf s) noCarried _ z (c .before .before .before .before .read-carried .ensures) i;
+      uninterpreted = after-done _ (uninterpretedOf s) noUninterpreted _ z (c .before .before .before .before .before .read-uninterpreted .ensures) i;
     }
 
 pub read-record-spec : {M : Type 1} → statement M
@@ -50,7 +49,6 @@ read-record-spec =
     (λ c. search needs)
     (λ c κs. search needs)
     returns
-    (λ c κs. search needs)
     (λ c κs. search needs)
     (λ c κs. search needs)
     (λ c κs. search needs)
