@@ -3,7 +3,7 @@ use pedr_arrays::RecordArrays;
 use pedr_block::Block;
 use pedr_block_runs::BlockRuns;
 use pedr_fields::RecordFields;
-use pedr_layout::CARRIED;
+use pedr_layout::CARRIED_MOST;
 use pedr_layout::UNINTERPRETED;
 ghost use mathlib.Core.Path.{_≡_};
 ghost use Rattle.octets.specs.Refusal.{refusalIn};
@@ -21,7 +21,7 @@ pub struct RecordRead {
     pub answer: RecordAnswer,
     pub arrays: RecordArrays,
     pub runs: BlockRuns,
-    pub carried: [u8; CARRIED],
+    pub carried: [u8; CARRIED_MOST],
     pub uninterpreted: [u8; UNINTERPRETED],
 }
 
@@ -37,7 +37,7 @@ pub fn read_record(bytes: &[u8]) -> RecordRead
             answer: RecordAnswer::Refused(n),
             arrays: pedr_arrays::no_arrays(),
             runs: pedr_block_runs::no_runs(),
-            carried: [0; CARRIED],
+            carried: [0; CARRIED_MOST],
             uninterpreted: [0; UNINTERPRETED],
         };
     }

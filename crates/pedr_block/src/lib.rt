@@ -1,5 +1,5 @@
 // The engineering block of a PEDR record: the fields of its frame that are single numbers, by their names in document 000, appendices C.3 to C.9.
-use pedr_layout::CARRIED;
+use pedr_layout::CARRIED_MOST;
 use pedr_layout::FRAME_INDEX_AT;
 ghost use mathlib.Core.Path.{_≡_};
 ghost use Rattle.pedr_block.specs.Frames.{frame1Of, frame2Of, frame3Of, frame5Of, frame6Of, frame7Of};
@@ -62,7 +62,7 @@ pub struct Frame3Fields {
 #[repr(C)]
 pub struct Frame4Fields {}
 
-// Frame 5: the range gate tracker's histogram, commands.
+// Frame 5: HSTART for the histogram dump, commands received.
 #[repr(C)]
 pub struct Frame5Fields {
     pub hstart_value_histogram_dump: u32,
@@ -233,6 +233,6 @@ pub fn carried_count(block: Block) -> usize
         Block::Frame4(_) => 0,
         Block::Frame5(_) => 4,
         Block::Frame6(_) => 0,
-        Block::Frame7(_) => CARRIED,
+        Block::Frame7(_) => CARRIED_MOST,
     }
 }

@@ -112,10 +112,10 @@ blockNumbers (Frame6 f) = record { frame = 6; «frame_1» = noFrame1; «frame_2�
 blockNumbers (Frame7 f) = record { frame = 7; «frame_1» = noFrame1; «frame_2» = noFrame2; «frame_3» = noFrame3; «frame_5» = noFrame5; «frame_6» = noFrame6; «frame_7» = f }
 
 -- the block of a frame number that is none of 1 to 7: one that is not of the frame index, and leaves no carried bytes
-abbrev pub otherBlock : BlockNumbers → ℕ → Block
-otherBlock n index = cond (eqb index 1) (Frame2 (n .«frame_2»)) (Frame1 (n .«frame_1»))
+abbrev pub otherBlock : Frame1Fields → Frame2Fields → ℕ → Block
+otherBlock f g index = cond (eqb index 1) (Frame2 g) (Frame1 f)
 
 unfoldable pub blockOfNumbers : BlockNumbers → ℕ → Block
 blockOfNumbers n index =
     byFrame (n .frame) (Frame1 (n .«frame_1»)) (Frame2 (n .«frame_2»)) (Frame3 (n .«frame_3»)) (Frame4 (record {})) (Frame5 (n .«frame_5»)) (Frame6 (n .«frame_6»))
-    (cond (eqb (n .frame) 7) (Frame7 (n .«frame_7»)) (otherBlock n index))
+    (cond (eqb (n .frame) 7) (Frame7 (n .«frame_7»)) (otherBlock (n .«frame_1») (n .«frame_2») index))

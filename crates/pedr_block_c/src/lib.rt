@@ -9,10 +9,8 @@ use pedr_block::Frame6Fields;
 use pedr_block::Frame7Fields;
 use pedr_layout::FRAME_INDEX_AT;
 ghost use mathlib.Core.Path.{_≡_};
-ghost use mathlib.Core.Bool.{cond};
-ghost use lib.Dec.{eqb};
 ghost use Rattle.pedr_block.specs.Block.{blockOf};
-ghost use Rattle.pedr_block_c.specs.Numbers.{noFrame1, noFrame2, noFrame3, noFrame5, noFrame6, noFrame7, noBlock, blockNumbers, blockOfNumbers};
+ghost use Rattle.pedr_block_c.specs.Numbers.{noFrame1, noFrame2, noFrame3, noFrame5, noFrame6, noFrame7, noBlock, blockNumbers, otherBlock, blockOfNumbers};
 
 // The frame, 1 to 7, or 0 where there is none, and the fields of each frame that has some. Those of the other frames are zeros where they are given, and are
 // not looked at where they are taken.
@@ -227,7 +225,7 @@ pub fn read_block(bytes: &[u8]) -> BlockNumbers
 
 // The block of a frame number that is none of 1 to 7: one that is not of the frame index, and leaves no carried bytes.
 fn other_block(frame_1: Frame1Fields, frame_2: Frame2Fields, index: u16) -> Block
-    ensures { λ r. ⌜ r ≡ cond (eqb index 1) (Block.Frame2 «frame_2») (Block.Frame1 «frame_1») ⌝ }
+    ensures { λ r. ⌜ r ≡ otherBlock «frame_1» «frame_2» index ⌝ }
 {
     if index == 1 {
         Block::Frame2(frame_2)

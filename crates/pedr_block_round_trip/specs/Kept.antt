@@ -8,7 +8,7 @@ use Rattle.pedr_layout.specs.Block as columns
 use Rattle.pedr_block.specs.Block.{blockOf, layoutOf, carriedCount}
 use Rattle.pedr_block.specs.declared.Block.{Block}
 use Rattle.pedr_block.specs.declared.Block.the-variants.{Frame1, Frame2, Frame3, Frame4, Frame5, Frame6, Frame7}
-use Rattle.pedr_block_runs.specs.Runs.{noRuns, statusFlagsLength, trackerLength, dumpLength, echoLength}
+use Rattle.pedr_block_runs.specs.Runs.{noRuns, statusFlagsLength, trackerLength, dumpLength, commandEchoLength}
 use Rattle.pedr_block_runs.specs.Carried.{carriedOf}
 use Rattle.pedr_block_runs.specs.declared.BlockRuns.{BlockRuns}
 use Rattle.pedr_block_writer.specs.Rows.{itemsFor, blockRow}
@@ -25,28 +25,28 @@ keptRuns (Frame3 f) r =
       «status_flags» = keptItems statusFlagsLength columns.statusFlags (r .«status_flags»);
       «range_gate_tracker_array» = keptItems trackerLength columns.rangeGateTrackerArrayIn3 (r .«range_gate_tracker_array»);
       «memory_dump_segment» = replicate dumpLength 0;
-      «command_echo» = replicate echoLength 0;
+      «command_echo» = replicate commandEchoLength 0;
     }
 keptRuns (Frame4 f) r =
     record {
       «status_flags» = replicate statusFlagsLength 0;
       «range_gate_tracker_array» = keptItems trackerLength columns.rangeGateTrackerArrayIn4 (r .«range_gate_tracker_array»);
       «memory_dump_segment» = replicate dumpLength 0;
-      «command_echo» = replicate echoLength 0;
+      «command_echo» = replicate commandEchoLength 0;
     }
 keptRuns (Frame5 f) r =
     record {
       «status_flags» = replicate statusFlagsLength 0;
       «range_gate_tracker_array» = keptItems trackerLength columns.rangeGateTrackerArrayIn5 (r .«range_gate_tracker_array»);
       «memory_dump_segment» = keptItems dumpLength columns.memoryDumpSegmentIn5 (r .«memory_dump_segment»);
-      «command_echo» = replicate echoLength 0;
+      «command_echo» = replicate commandEchoLength 0;
     }
 keptRuns (Frame6 f) r =
     record {
       «status_flags» = replicate statusFlagsLength 0;
       «range_gate_tracker_array» = replicate trackerLength 0;
       «memory_dump_segment» = keptItems dumpLength columns.memoryDumpSegmentIn6 (r .«memory_dump_segment»);
-      «command_echo» = keptItems echoLength columns.commandEcho (r .«command_echo»);
+      «command_echo» = keptItems commandEchoLength columns.commandEcho (r .«command_echo»);
     }
 keptRuns (Frame7 f) r = noRuns
 

@@ -9,18 +9,18 @@ use Rattle.pedr_layout.specs.Layout.{frameIndex}
 use Rattle.pedr_layout.specs.Block as columns
 use Rattle.pedr_block_runs.specs.declared.BlockRuns.{BlockRuns}
 
--- the lengths of the arrays
+-- the lengths of the arrays: each run has all of one frame's
 abbrev pub statusFlagsLength : ℕ
-statusFlagsLength = 2
+statusFlagsLength = columns.statusFlags .items
 
 abbrev pub trackerLength : ℕ
-trackerLength = 14
+trackerLength = columns.rangeGateTrackerArrayIn4 .items
 
 abbrev pub dumpLength : ℕ
-dumpLength = 5
+dumpLength = columns.memoryDumpSegmentIn6 .items
 
-abbrev pub echoLength : ℕ
-echoLength = 8
+abbrev pub commandEchoLength : ℕ
+commandEchoLength = columns.commandEcho .items
 
 -- a column's items in an array of n, zeros behind them
 abbrev pub itemsIn : ℕ → List ℕ → Column → List ℕ
@@ -32,7 +32,7 @@ noRuns =
       «status_flags» = replicate statusFlagsLength 0;
       «range_gate_tracker_array» = replicate trackerLength 0;
       «memory_dump_segment» = replicate dumpLength 0;
-      «command_echo» = replicate echoLength 0;
+      «command_echo» = replicate commandEchoLength 0;
     }
 
 unfoldable pub runsIn3 : List ℕ → BlockRuns
@@ -41,7 +41,7 @@ runsIn3 s =
       «status_flags» = itemsIn statusFlagsLength s columns.statusFlags;
       «range_gate_tracker_array» = itemsIn trackerLength s columns.rangeGateTrackerArrayIn3;
       «memory_dump_segment» = replicate dumpLength 0;
-      «command_echo» = replicate echoLength 0;
+      «command_echo» = replicate commandEchoLength 0;
     }
 
 unfoldable pub runsIn4 : List ℕ → BlockRuns
@@ -50,7 +50,7 @@ runsIn4 s =
       «status_flags» = replicate statusFlagsLength 0;
       «range_gate_tracker_array» = itemsIn trackerLength s columns.rangeGateTrackerArrayIn4;
       «memory_dump_segment» = replicate dumpLength 0;
-      «command_echo» = replicate echoLength 0;
+      «command_echo» = replicate commandEchoLength 0;
     }
 
 unfoldable pub runsIn5 : List ℕ → BlockRuns
@@ -59,7 +59,7 @@ runsIn5 s =
       «status_flags» = replicate statusFlagsLength 0;
       «range_gate_tracker_array» = itemsIn trackerLength s columns.rangeGateTrackerArrayIn5;
       «memory_dump_segment» = itemsIn dumpLength s columns.memoryDumpSegmentIn5;
-      «command_echo» = replicate echoLength 0;
+      «command_echo» = replicate commandEchoLength 0;
     }
 
 unfoldable pub runsIn6 : List ℕ → BlockRuns
@@ -68,7 +68,7 @@ runsIn6 s =
       «status_flags» = replicate statusFlagsLength 0;
       «range_gate_tracker_array» = replicate trackerLength 0;
       «memory_dump_segment» = itemsIn dumpLength s columns.memoryDumpSegmentIn6;
-      «command_echo» = itemsIn echoLength s columns.commandEcho;
+      «command_echo» = itemsIn commandEchoLength s columns.commandEcho;
     }
 
 -- by the frame index

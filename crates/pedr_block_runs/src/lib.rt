@@ -1,5 +1,5 @@
 // The engineering block of a PEDR record: the columns of its frame that are runs of items, and the bytes that its layout leaves unnamed.
-use pedr_layout::CARRIED;
+use pedr_layout::CARRIED_MOST;
 use pedr_layout::FRAME_INDEX_AT;
 ghost use mathlib.Core.Path.{_≡_};
 ghost use Rattle.layout.specs.Column.{octetsIn};
@@ -100,26 +100,26 @@ pub fn read_runs(bytes: &[u8]) -> BlockRuns
     }
 }
 
-fn read_carried_3(bytes: &[u8]) -> [u8; CARRIED]
+fn read_carried_3(bytes: &[u8]) -> [u8; CARRIED_MOST]
     ensures { λ r. ⌜ r ≡ carriedBy (now (bytes .entry)) columns.frame3 ⌝ }
 {
-    let mut carried = [0u8; CARRIED];
+    let mut carried = [0u8; CARRIED_MOST];
     octets_runs_writer::copy_part(bytes, 526, 2, 0, &mut carried);
     carried
 }
 
-fn read_carried_5(bytes: &[u8]) -> [u8; CARRIED]
+fn read_carried_5(bytes: &[u8]) -> [u8; CARRIED_MOST]
     ensures { λ r. ⌜ r ≡ carriedBy (now (bytes .entry)) columns.frame5 ⌝ }
 {
-    let mut carried = [0u8; CARRIED];
+    let mut carried = [0u8; CARRIED_MOST];
     octets_runs_writer::copy_part(bytes, 524, 4, 0, &mut carried);
     carried
 }
 
-fn read_carried_7(bytes: &[u8]) -> [u8; CARRIED]
+fn read_carried_7(bytes: &[u8]) -> [u8; CARRIED_MOST]
     ensures { λ r. ⌜ r ≡ carriedBy (now (bytes .entry)) columns.frame7 ⌝ }
 {
-    let mut carried = [0u8; CARRIED];
+    let mut carried = [0u8; CARRIED_MOST];
     octets_runs_writer::copy_part(bytes, 516, 4, 0, &mut carried);
     octets_runs_writer::copy_part(bytes, 530, 6, 4, &mut carried);
     carried
@@ -127,17 +127,17 @@ fn read_carried_7(bytes: &[u8]) -> [u8; CARRIED]
 
 // Reads the bytes of the block that its frame's layout leaves unnamed, in the record's order, and zeros behind them. Any bytes, also those that are refused
 // as a record; a byte past the end reads as 0, and a frame index that is none of 1 to 6 as 7.
-pub fn read_carried(bytes: &[u8]) -> [u8; CARRIED]
+pub fn read_carried(bytes: &[u8]) -> [u8; CARRIED_MOST]
     ensures { λ r. ⌜ r ≡ carriedOf (now (bytes .entry)) ⌝ }
 {
     let frame = octets::u16_at(bytes, FRAME_INDEX_AT);
     match frame {
-        1 => [0; CARRIED],
-        2 => [0; CARRIED],
+        1 => [0; CARRIED_MOST],
+        2 => [0; CARRIED_MOST],
         3 => read_carried_3(bytes),
-        4 => [0; CARRIED],
+        4 => [0; CARRIED_MOST],
         5 => read_carried_5(bytes),
-        6 => [0; CARRIED],
+        6 => [0; CARRIED_MOST],
         _ => read_carried_7(bytes),
     }
 }

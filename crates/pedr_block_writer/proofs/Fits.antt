@@ -10,6 +10,7 @@ use Rattle.layout.specs.Column.{tiles}
 use Rattle.layout.specs.Row.{rowParts}
 use Rattle.layout.proofs.Cover.{Fit, done, _▹_, join-length}
 use Rattle.pedr_layout.specs.Block as columns
+use Rattle.pedr_layout.proofs.Block.{frame-tiles}
 use Rattle.pedr_block.specs.Block.{layoutOf}
 use Rattle.pedr_block.specs.declared.Frame1Fields.{Frame1Fields}
 use Rattle.pedr_block.specs.declared.Frame2Fields.{Frame2Fields}
@@ -77,13 +78,13 @@ block-fits (Frame7 f) r c z = frame7-fits f c
 
 -- its layout covers the block
 pub block-tiles : (b : Block) → tiles columns.blockStart columns.blockEnd (columns.columnsIn (layoutOf b)) ≡ true
-block-tiles (Frame1 f) = refl
-block-tiles (Frame2 f) = refl
-block-tiles (Frame3 f) = refl
-block-tiles (Frame4 f) = refl
-block-tiles (Frame5 f) = refl
-block-tiles (Frame6 f) = refl
-block-tiles (Frame7 f) = refl
+block-tiles (Frame1 f) = frame-tiles 1 (omega arith) (omega arith)
+block-tiles (Frame2 f) = frame-tiles 2 (omega arith) (omega arith)
+block-tiles (Frame3 f) = frame-tiles 3 (omega arith) (omega arith)
+block-tiles (Frame4 f) = frame-tiles 4 (omega arith) (omega arith)
+block-tiles (Frame5 f) = frame-tiles 5 (omega arith) (omega arith)
+block-tiles (Frame6 f) = frame-tiles 6 (omega arith) (omega arith)
+block-tiles (Frame7 f) = frame-tiles 7 (omega arith) (omega arith)
 
 -- so it has 28 bytes
 pub block-length : (b : Block) (r : BlockRuns) (carried : List ℕ) → RunSizes r → length (blockOctets b r carried) ≡ 28

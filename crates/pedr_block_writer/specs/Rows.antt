@@ -108,7 +108,7 @@ frame7Row f carried =
     ▷ (f .«ots_qual_flag» ∷ [])
     ▷ (f .«packet_type» ∷ [])
     ▷ (f .«areocentric_longitude_of_sun» ∷ [])
-    ▷ octetsAt carried 4 (columns.spare531 .items)
+    ▷ octetsAt carried (columns.spare517 .items) (columns.spare531 .items)
     ▷ end
 
 abbrev pub blockRow : (b : Block) → BlockRuns → List ℕ → Row (columns.columnsIn (layoutOf b))

@@ -17,7 +17,7 @@ use pedr_flags::Descriptor;
 use pedr_flags::Encoder;
 use pedr_flags::Quality;
 use pedr_flags::ShotFailures;
-use pedr_layout::CARRIED;
+use pedr_layout::CARRIED_MOST;
 use pedr_layout::CLASS_AT;
 use pedr_layout::SHOTS;
 use pedr_layout::UNINTERPRETED;
@@ -61,7 +61,7 @@ pub struct RecordNumbers {
     pub block: BlockNumbers,
     pub arrays: ArrayNumbers,
     pub runs: BlockRuns,
-    pub carried: [u8; CARRIED],
+    pub carried: [u8; CARRIED_MOST],
     pub uninterpreted: [u8; UNINTERPRETED],
 }
 
@@ -240,7 +240,7 @@ fn refused_record(refusal: u32) -> RecordNumbers
         block: pedr_block_c::no_block(),
         arrays: no_arrays(),
         runs: pedr_block_runs::no_runs(),
-        carried: [0; CARRIED],
+        carried: [0; CARRIED_MOST],
         uninterpreted: [0; UNINTERPRETED],
     }
 }

@@ -2,7 +2,7 @@
 -- record's own list. The block ends before appendix C.10's first column, ORBIT_QUALITY_FLAG, at 537. A column keeps its name there; one that several frames
 -- have ends in the frame's number, and a spare in its first byte.
 use Prim.Native.Nat.{ℕ, _+_}
-use mathlib.Core.Bool.{Bool, true, cond}
+use mathlib.Core.Bool.{cond}
 use mathlib.Core.List.{List, [], _∷_, map}
 use lib.Dec.{eqb}
 use Rattle.layout.specs.Column.{Column, size}
@@ -15,7 +15,7 @@ blockStart = 508
 abbrev pub blockEnd : ℕ
 blockEnd = 536
 
--- a column that its appendix names, or one that it calls SPARE, whose bytes are carried
+-- a column that its appendix names, or one that it calls SPARE, whose bytes are carried: whatever type the appendix gives a spare, it stands here as bytes
 pub data BlockColumn : Type 0 where
   named : Column → BlockColumn
   spare : Column → BlockColumn
@@ -38,7 +38,7 @@ carriedIn [] = []
 carriedIn (named c ∷ l) = carriedIn l
 carriedIn (spare c ∷ l) = c ∷ carriedIn l
 
--- the carried bytes of a layout
+-- how many bytes columns have, and how many of a layout are carried
 abbrev pub sizes : List Column → ℕ
 sizes [] = 0
 sizes (c ∷ cs) = size c + sizes cs
@@ -278,10 +278,7 @@ frame7 =
     named otsRange ∷ named firstChReceivedEnergy ∷ spare spare517 ∷ named otsTransmitPower ∷ named otsPulseWidth ∷ named otsPulseAmplitude
     ∷ named otsQualFlag ∷ named packetType ∷ named areocentricLongitudeOfSun ∷ spare spare531 ∷ []
 
--- ---- the seven
-
-abbrev pub frames : List (List BlockColumn)
-frames = frame1 ∷ frame2 ∷ frame3 ∷ frame4 ∷ frame5 ∷ frame6 ∷ frame7 ∷ []
+-- ---- by the frame index
 
 -- one of seven by the frame index; an index that is none of 1 to 6 takes the seventh
 abbrev pub byFrame : {A : Type 0} → ℕ → A → A → A → A → A → A → A → A
@@ -290,6 +287,10 @@ byFrame n a b c d e f g =
 
 abbrev pub frameLayout : ℕ → List BlockColumn
 frameLayout n = byFrame n frame1 frame2 frame3 frame4 frame5 frame6 frame7
+
+-- the seven layouts
+abbrev pub frames : List (List BlockColumn)
+frames = frameLayout 1 ∷ frameLayout 2 ∷ frameLayout 3 ∷ frameLayout 4 ∷ frameLayout 5 ∷ frameLayout 6 ∷ frameLayout 7 ∷ []
 
 -- the most carried bytes of a frame
 abbrev pub carriedMost : ℕ

@@ -6,7 +6,7 @@ use pedr_arrays::ShotClass;
 use pedr_block::Block;
 use pedr_block_runs::BlockRuns;
 use pedr_fields::RecordFields;
-use pedr_layout::CARRIED;
+use pedr_layout::CARRIED_MOST;
 use pedr_layout::SHOTS;
 use pedr_layout::UNINTERPRETED;
 use pedr_writer::RecordWritten;
@@ -26,7 +26,7 @@ pub fn writes_back()
     ensures { λ _. ⌜ back.WritesBack ⌝ }
 {}
 
-// Reading what was written gives back what was given.
+// Reading what was written gives back what was given, but for runs that the frame lacks.
 pub fn reads_back()
     ensures { λ _. ⌜ back.ReadsBack ⌝ }
 {}
@@ -37,7 +37,7 @@ fn write_given(
     block: Block,
     arrays: RecordArrays,
     runs: BlockRuns,
-    carried: [u8; CARRIED],
+    carried: [u8; CARRIED_MOST],
     uninterpreted: [u8; UNINTERPRETED],
     out: &mut [u8],
 ) -> RecordWritten
@@ -105,7 +105,7 @@ fn type_arrays(arrays: RecordArrays)
     type_xyz(xyz);
 }
 
-// Writes a record and reads it again: what was given, its counter worked out, or the writer's refusal.
+// Writes a record and reads it again: what was given, its counter worked out and zeros for runs that the frame lacks, or the writer's refusal.
 pub fn write_and_read(
     fields: RecordFields,
     block: Block,
@@ -139,7 +139,7 @@ pub fn write_and_read(
             answer: RecordAnswer::Refused(n),
             arrays: pedr_arrays::no_arrays(),
             runs: pedr_block_runs::no_runs(),
-            carried: [0; CARRIED],
+            carried: [0; CARRIED_MOST],
             uninterpreted: [0; UNINTERPRETED],
         };
     }

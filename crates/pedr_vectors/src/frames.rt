@@ -8,7 +8,7 @@ use pedr_block::Frame5Fields;
 use pedr_block::Frame6Fields;
 use pedr_block::Frame7Fields;
 use pedr_block_runs::BlockRuns;
-use pedr_layout::CARRIED;
+use pedr_layout::CARRIED_MOST;
 
 fn show_frame_1(f: Frame1Fields) {
     show::signed_16(f.computer_memory_temperature);
@@ -106,7 +106,7 @@ pub(crate) fn show_block(block: Block) {
     }
 }
 
-pub(crate) fn show_runs(runs: BlockRuns, carried: [u8; CARRIED]) {
+pub(crate) fn show_runs(runs: BlockRuns, carried: [u8; CARRIED_MOST]) {
     let flags = runs.status_flags;
     let tracker = runs.range_gate_tracker_array;
     let dump = runs.memory_dump_segment;

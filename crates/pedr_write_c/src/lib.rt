@@ -26,9 +26,17 @@ pub fn write_record(
         (now (carried .entry)) (now (uninterpreted .entry)) (now (out .entry))) ⌝ }
 {
     let receiver = fields.receiver;
-    let own = pedr_block_c::block_of(block, receiver.frame_index);
-    let given = pedr_c::arrays_of(arrays);
-    let written = pedr_writer::write_record(fields, own, given, runs, carried, uninterpreted, out);
+    let block_given = pedr_block_c::block_of(block, receiver.frame_index);
+    let arrays_given = pedr_c::arrays_of(arrays);
+    let written = pedr_writer::write_record(
+        fields,
+        block_given,
+        arrays_given,
+        runs,
+        carried,
+        uninterpreted,
+        out,
+    );
     match written {
         RecordWritten::Refused(n) => n,
         RecordWritten::Written => 0,

@@ -8,7 +8,7 @@ use pedr_arrays::RecordArrays;
 use pedr_block::Block;
 use pedr_block_runs::BlockRuns;
 use pedr_fields::RecordFields;
-use pedr_layout::CARRIED;
+use pedr_layout::CARRIED_MOST;
 use pedr_layout::RECORD_SIZE;
 use pedr_layout::UNINTERPRETED;
 use pedr_writer::RecordWritten;
@@ -30,7 +30,7 @@ fn runs_digest(runs: BlockRuns) -> u64 {
 }
 
 // The counter of a record that was read, and digests of the block's runs and carried bytes.
-fn show_read(counter: u8, runs: BlockRuns, carried: &[u8; CARRIED]) {
+fn show_read(counter: u8, runs: BlockRuns, carried: &[u8; CARRIED_MOST]) {
     show::text(b" counter");
     show::entry(counter as u64);
     show::text(b" runs");
@@ -45,7 +45,7 @@ fn write_again(
     block: Block,
     arrays: RecordArrays,
     runs: BlockRuns,
-    carried: &[u8; CARRIED],
+    carried: &[u8; CARRIED_MOST],
     uninterpreted: [u8; UNINTERPRETED],
 ) {
     let mut room = [165; 800];
