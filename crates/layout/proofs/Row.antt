@@ -2,14 +2,13 @@
 use Prim.Native.Nat.{ℕ, _+_, _*_, _≤_}
 use mathlib.Core.Path.{_≡_, refl, sym, ap, _∙_}
 use mathlib.Core.Bool.{Bool, true, _&&_}
-use mathlib.Core.List.{List, [], _∷_, _++_}
+use mathlib.Core.List.{List, [], _∷_}
 use native.Mathlib.Omega.{arith}
-use borrow.Author.Tests.{leb-true, eqb-true}
+use borrow.Author.Tests.{leb-true}
 use lib.Dec.{leb}
 use lib.ListN.{length, getD}
 use Rattle.octets.specs.Bytes.{part, Octets}
-use Rattle.octets.specs.Table.{each}
-use Rattle.layout.specs.Column.{Column, Number, size, tiles, numbersAt, values, holdingAll, cut}
+use Rattle.layout.specs.Column.{Column, size, tiles, numbersAt, values, holdingAll, cut}
 use Rattle.layout.specs.Row.{Row, end, _▷_, rowOf, rowParts, FirstRest, RowHolds}
 use Rattle.layout.proofs.Cover.{Fit, done, _▹_, first, both-true, tiles-le}
 use Rattle.layout.proofs.Values.{numbers-length, write-numbers, read-numbers}

@@ -1,7 +1,7 @@
 -- A block that was written, read: what was given.
 use Prim.Native.Nat.{ℕ, _-_, _≤_}
-use mathlib.Core.Path.{_≡_, refl, sym, ap, _∙_}
-use mathlib.Core.List.{List, [], _∷_, _++_}
+use mathlib.Core.Path.{_≡_, sym, ap, _∙_}
+use mathlib.Core.List.{List, _++_}
 use native.Mathlib.Omega.{arith}
 use lib.IntN.{pos}
 use lib.ListN.{length, getD, replicate}
@@ -15,7 +15,7 @@ use Rattle.layout.proofs.Cover.{cut-part, join-length}
 use Rattle.layout.proofs.Row.{row-fits, read-row}
 use Rattle.pedr_layout.specs.Layout.{frameIndex}
 use Rattle.pedr_layout.specs.Block as columns
-use Rattle.pedr_block.specs.Frames.{frame1Of, frame2Of, frame3Of, frame4Of, frame5Of, frame6Of, frame7Of}
+use Rattle.pedr_block.specs.Frames.{frame1Of, frame2Of, frame3Of, frame5Of, frame6Of, frame7Of}
 use Rattle.pedr_block.specs.Block.{layoutOf, frameNumber, carriedCount}
 use Rattle.pedr_block.specs.declared.Frame1Fields.{Frame1Fields}
 use Rattle.pedr_block.specs.declared.Frame2Fields.{Frame2Fields}
@@ -25,7 +25,7 @@ use Rattle.pedr_block.specs.declared.Frame6Fields.{Frame6Fields}
 use Rattle.pedr_block.specs.declared.Frame7Fields.{Frame7Fields}
 use Rattle.pedr_block.specs.declared.Block.{Block}
 use Rattle.pedr_block.specs.declared.Block.the-variants.{Frame1, Frame2, Frame3, Frame4, Frame5, Frame6, Frame7}
-use Rattle.pedr_block_runs.specs.Runs.{noRuns, runsIn3, runsIn4, runsIn5, runsIn6}
+use Rattle.pedr_block_runs.specs.Runs.{runsIn3, runsIn4, runsIn5, runsIn6}
 use Rattle.pedr_block_runs.specs.Carried.{carriedBy}
 use Rattle.pedr_block_runs.specs.declared.BlockRuns.{BlockRuns}
 use Rattle.pedr_block_writer.specs.Rows.{blockRow, blockOctets}

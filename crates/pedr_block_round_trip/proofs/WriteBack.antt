@@ -9,16 +9,16 @@ use Rattle.layout.proofs.Row.{wide, write-row}
 use Rattle.octets.specs.Bytes.{part, Octets}
 use Rattle.octets.specs.Table.{octetsAt, natsAt, intsAt}
 use Rattle.layout.specs.Column.{value, join}
-use Rattle.layout.specs.Row.{Row, end, _▷_, rowOf, rowParts, RowHolds}
+use Rattle.layout.specs.Row.{rowOf, rowParts}
 use Rattle.pedr_layout.specs.Layout.{frameIndex}
 use Rattle.pedr_layout.specs.Block as columns
 use Rattle.pedr_layout.proofs.Frames.{each-frame}
 use Rattle.pedr_block.specs.Frames.{frame1Of, frame2Of, frame3Of, frame4Of, frame5Of, frame6Of, frame7Of}
-use Rattle.pedr_block.specs.Block.{blockOf, layoutOf, frameNumber, carriedCount}
+use Rattle.pedr_block.specs.Block.{blockOf, layoutOf, carriedCount}
 use Rattle.pedr_block.specs.declared.Block.{Block}
 use Rattle.pedr_block.specs.declared.Block.the-variants.{Frame1, Frame2, Frame3, Frame4, Frame5, Frame6, Frame7}
 use Rattle.pedr_block_runs.specs.Runs.{noRuns, runsIn3, runsIn4, runsIn5, runsIn6, runsOf}
-use Rattle.pedr_block_runs.specs.Carried.{carriedBy, carriedOf}
+use Rattle.pedr_block_runs.specs.Carried.{carriedBy}
 use Rattle.pedr_block_runs.specs.declared.BlockRuns.{BlockRuns}
 use Rattle.pedr_block_writer.specs.Rows.{blockRow, blockOctets}
 use Rattle.pedr_block_writer.proofs.Fits.{block-tiles}

@@ -2,7 +2,6 @@
 use pedr_layout::CARRIED_MOST;
 use pedr_layout::FRAME_INDEX_AT;
 ghost use mathlib.Core.Path.{_≡_};
-ghost use Rattle.layout.specs.Column.{octetsIn};
 ghost use Rattle.pedr_layout.specs.Block as columns;
 ghost use Rattle.pedr_block_runs.specs.Runs.{noRuns, runsIn3, runsIn4, runsIn5, runsIn6, runsOf};
 ghost use Rattle.pedr_block_runs.specs.Carried.{carriedBy, carriedOf};

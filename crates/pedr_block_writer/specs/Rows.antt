@@ -11,7 +11,6 @@ use Rattle.pedr_block.specs.Block.{layoutOf}
 use Rattle.pedr_block.specs.declared.Frame1Fields.{Frame1Fields}
 use Rattle.pedr_block.specs.declared.Frame2Fields.{Frame2Fields}
 use Rattle.pedr_block.specs.declared.Frame3Fields.{Frame3Fields}
-use Rattle.pedr_block.specs.declared.Frame4Fields.{Frame4Fields}
 use Rattle.pedr_block.specs.declared.Frame5Fields.{Frame5Fields}
 use Rattle.pedr_block.specs.declared.Frame6Fields.{Frame6Fields}
 use Rattle.pedr_block.specs.declared.Frame7Fields.{Frame7Fields}

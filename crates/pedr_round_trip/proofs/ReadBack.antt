@@ -5,24 +5,22 @@ use mathlib.Core.Bool.{Bool, true, false, _&&_, false≢true}
 use mathlib.Core.List.{List, [], _∷_, _++_, map}
 use native.Mathlib.Omega.{arith}
 use borrow.Author.Tests.{ltb-true, ne-eqb}
-use lib.Dec.{eqb, ltb}
 use lib.IntN.{pos}
-use lib.ListN.{length, getD, take, drop, length-map, List·getD-map, take-append-drop}
+use lib.ListN.{length, getD, length-map, List·getD-map, take-append-drop}
 use Rattle.numbers.proofs.Bits.{bits-set-le}
-use Rattle.octets.specs.Bytes.{natAt, octetsOf, part}
-use Rattle.octets.specs.Table.{table, natsAt, intsAt, octetsAt, octetsOfAll, each}
+use Rattle.octets.specs.Bytes.{natAt, part}
+use Rattle.octets.specs.Table.{table, natsAt, intsAt}
 use Rattle.octets.specs.Refusal.{answered}
 use Rattle.octets.proofs.Codec.{octets-part, read-write}
 use Rattle.octets.proofs.Each.{each-at}
 use Rattle.octets.proofs.Fill.{table-below, table-self, table-at}
 use Rattle.octets.proofs.Ladder.{pass-eq, say-answered, after-done}
-use Rattle.layout.specs.Column.{Sign, unsigned, complement, Number, value, item, numberAt, numbersAt, numberOctets, numbersOctets, Holds, HoldsAll, cut}
+use Rattle.layout.specs.Column.{Sign, unsigned, complement, Number, item, numberAt, numbersAt, numberOctets, numbersOctets, Holds, HoldsAll, cut}
 use Rattle.layout.proofs.Cover.{cut-join}
 use Rattle.layout.proofs.Values.{read-number, read-numbers}
 use Rattle.pedr_layout.specs.Layout as columns
 use Rattle.pedr_flags.specs.Quality.{goodCount, qualityOf}
 use Rattle.pedr_flags.specs.Class.{classOf, classNumber}
-use Rattle.pedr_flags.specs.Descriptor.{descriptorOf, allFailuresOf}
 use Rattle.pedr_flags.specs.Encoder.{encoderOf}
 use Rattle.pedr_flags.specs.declared.Class.{Class}
 use Rattle.pedr_flags.specs.declared.Class.the-variants.{NoTrigger, ProbableGround, Unassigned}
@@ -33,7 +31,6 @@ use Rattle.pedr_flags_writer.proofs.Codes.{quality-parts, quality-lt, count-low
 use Rattle.pedr_flags_writer.proofs.DescriptorRead.{failures-given, descriptor-given}
 use Rattle.pedr_arrays.specs.Arrays.{shotClass, classesOf, encodersOf, shotArraysOf, channelArraysOf, arraysOf, noArrays}
 use Rattle.pedr_arrays.specs.Uninterpreted.{uninterpretedOf, noUninterpreted}
-use Rattle.pedr_arrays.specs.declared.ShotClass.{ShotClass}
 use Rattle.pedr_arrays.specs.declared.RecordArrays.{RecordArrays}
 use Rattle.pedr_fields.specs.Fields.{timeOf, positionOf, pointingOf, rangesOf, receiverOf, linkOf, fieldsOf}
 use Rattle.pedr_fields.specs.declared.RecordFields.{RecordFields}

@@ -1,33 +1,32 @@
 -- Writing what was read: column by column.
-use Prim.Native.Nat.{ℕ, zero, suc, _+_, _*_, _/_, _%_, _<_, _≤_}
+use Prim.Native.Nat.{ℕ, _+_, _*_, _/_, _%_, _≤_}
 use mathlib.Core.Path.{_≡_, refl, sym, ap, ap₂, _∙_}
 use mathlib.Core.Bool.{Bool, true, _&&_}
-use mathlib.Core.List.{List, [], _∷_, _++_, map}
+use mathlib.Core.List.{List, [], _∷_, map}
 use native.Mathlib.Nat.{mod-lt}
 use native.Mathlib.Omega.{arith}
 use borrow.Author.Tests.{lt-ltb}
-use lib.Dec.{eqb, ltb}
+use lib.Dec.{ltb}
 use lib.ListN.{length, take, drop, length-append}
 use lib.Seq.{take-at, drop-at}
 use Rattle.octets.specs.Bytes.{natAt, octetsOf, part, Octets}
-use Rattle.octets.specs.Table.{table, octetsAt, natsAt, intsAt, octetsOfAll, each}
+use Rattle.octets.specs.Table.{octetsAt, natsAt, intsAt, octetsOfAll, each}
 use Rattle.octets.proofs.Codec.{octets-part}
 use Rattle.octets.proofs.Each.{each-table}
 use Rattle.octets.proofs.Fill.{map-table, table-same, octets-count}
 use Rattle.octets.specs.Refusal.{after}
 use Rattle.octets.proofs.Ladder.{pass-eq, then-fail, then-pass}
 use Rattle.octets.proofs.Read.{nat-lt}
-use Rattle.layout.specs.Column.{Sign, unsigned, complement, value, item, values, numberAt, numbersAt, numberOctets, numbersOctets, holding, holdingAll, cut, join}
+use Rattle.layout.specs.Column.{Sign, unsigned, complement, item, values, numberAt, numbersAt, numberOctets, numbersOctets, cut, join}
 use Rattle.layout.proofs.Cover.{join-cut}
 use Rattle.layout.proofs.Values.{write-number, write-numbers}
 use Rattle.pedr_layout.specs.Layout as columns
 use Rattle.pedr_flags.specs.Quality.{goodCount, qualityOf}
 use Rattle.pedr_flags.specs.Class.{classOf, classNumber}
-use Rattle.pedr_flags.specs.Descriptor.{descriptorOf, allFailuresOf}
+use Rattle.pedr_flags.specs.Descriptor.{descriptorOf}
 use Rattle.pedr_flags.specs.Encoder.{encoderOf}
 use Rattle.pedr_flags_writer.specs.Encoder.{encoderByte}
 use Rattle.pedr_flags_writer.specs.Quality.{qualityBits}
-use Rattle.pedr_flags_writer.specs.Descriptor.{descriptorOctets}
 use Rattle.pedr_flags_writer.proofs.Codes.{quality-whole, count-low, class-whole, encoder-whole}
 use Rattle.pedr_flags_writer.proofs.DescriptorRead.{descriptor-whole}
 use Rattle.pedr_arrays.specs.Arrays.{shotClass, classesOf, encodersOf, shotArraysOf, channelArraysOf, arraysOf}

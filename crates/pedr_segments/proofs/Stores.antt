@@ -1,7 +1,7 @@
 -- Stores that make up a column between them, or two columns at once.
 use Prim.Native.Nat.{ℕ, _+_, _*_, _^_, _<_, _≤_}
 use mathlib.Core.Path.{_≡_, refl, sym, ap, _∙_}
-use mathlib.Core.List.{List, [], _∷_, _++_}
+use mathlib.Core.List.{List, [], _∷_}
 use native.Mathlib.Omega.{arith}
 use lib.ListN.{length, take, drop, length-drop}
 use lib.Seq.{take-all}
@@ -10,7 +10,6 @@ use Rattle.numbers.proofs.Bits.{bits-set-le}
 use Rattle.octets.specs.Bytes.{octetsOf, put}
 use Rattle.octets.specs.Table.{octetsAt, octetsOfAll}
 use Rattle.octets.proofs.Codec.{octets-length, octets-split, octets-part}
-use Rattle.octets.proofs.Runs.{all-append, all-one}
 use Rattle.octets.proofs.Store.{put-then}
 use Rattle.pedr_flags.specs.Quality.{goodCount}
 use Rattle.pedr_flags.specs.declared.Quality.{Quality}

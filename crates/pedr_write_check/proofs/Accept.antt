@@ -1,5 +1,5 @@
 -- The fields and arrays that the writer accepts.
-use Prim.Native.Nat.{ℕ, _≤_}
+use Prim.Native.Nat.{_≤_}
 use mathlib.Core.Path.{_≡_, refl, sym}
 use mathlib.Core.Bool.{true}
 use borrow.Author.Tests.{leb-true}

@@ -11,7 +11,6 @@ use Rattle.pedr_arrays.specs.declared.RecordArrays.{RecordArrays}
 use Rattle.pedr_fields.specs.declared.RecordFields.{RecordFields}
 use Rattle.pedr_block.specs.Block.{frameNumber, carriedCount}
 use Rattle.pedr_block.specs.declared.Block.{Block}
-use Rattle.pedr_write_check.specs.Refusal.{givenRefusal}
 use Rattle.pedr_write_check.proofs.Accept.{Proper, given-proper, proper-given}
 use Rattle.pedr_write_refusal.specs.Refusal.{writeRefusal}
 

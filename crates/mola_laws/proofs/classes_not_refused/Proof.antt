@@ -1,7 +1,4 @@
 -- The rung of 40 is passed, and no other rung has this number.
-use Prim.Native.Nat.{ℕ}
-use mathlib.Core.Path.{_≡_}
-use mathlib.Core.List.{List}
 use native.Mathlib.Omega.{arith}
 use Rattle.pedr_check.specs.Refusal.{valuesRefusal}
 use Rattle.pedr_codes.proofs.Proper.{classes-proper}

@@ -1,5 +1,4 @@
 -- Such a block has no carried bytes and is of another frame than the index, whatever it is.
-use mathlib.Core.Path.{_≡_}
 use lib.Dec.{eqb}
 use lib.ListN.{length}
 use Rattle.octets.specs.Refusal.{refuse_unless_else_, _then_}

@@ -1,10 +1,9 @@
 -- The law of loops that store bytes, at the bytes from an index on.
 use Prim.Native.Nat.{ℕ, _+_, _-_, _<_, _≤_, min}
 use mathlib.Core.Path.{_≡_, sym, ap, _∙_, subst}
-use mathlib.Core.List.{List}
 use denote.Ref.{now}
 use native.Mathlib.Omega.{arith}
-use lib.ListN.{length, getD, set}
+use lib.ListN.{length, set}
 use Rattle.octets.specs.Table.{octetsAt}
 use Rattle.octets.proofs.Fill.{octets-count, octets-at}
 use Rattle.octets.proofs.Read.{past-end}

@@ -4,7 +4,7 @@ use mathlib.Core.List.{List, _++_}
 use Prim.Native.Nat.{ℕ, _+_}
 use denote.Ref.{now}
 use native.Mathlib.Omega.{arith}
-use lib.ListN.{length, getD, length-append}
+use lib.ListN.{length, length-append}
 use Rattle.octets.specs.Bytes.{put}
 use Rattle.octets.specs.Table.{octetsAt}
 use Rattle.octets.proofs.Store.{put-then, put-whole}

@@ -1,9 +1,8 @@
 -- Frame by frame.
-use mathlib.Core.Path.{_≡_, refl, sym, ap, _∙_}
-use denote.Ref.{now}
+use mathlib.Core.Path.{sym, ap, _∙_}
 use Rattle.pedr_layout.proofs.Frames.{at-1, at-2, at-3, at-4, at-5, at-6, at-rest}
 use Rattle.pedr_block.specs.Block.{blockOf}
-use Rattle.pedr_block.specs.declared.Block.the-variants.{Frame1, Frame2, Frame3, Frame4, Frame5, Frame6, Frame7}
+use Rattle.pedr_block.specs.declared.Block.the-variants.{Frame1, Frame2, Frame3, Frame5, Frame6, Frame7}
 use borrow.Author.Needs.{needs}
 use Rattle.pedr_block.proofs.read_block.Statement.{statement}
 use Rattle.pedr_block.proofs.read_block.Tie as tie

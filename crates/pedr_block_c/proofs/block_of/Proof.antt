@@ -1,9 +1,8 @@
 -- Frame by frame.
-use mathlib.Core.Path.{_≡_, sym, ap, _∙_}
+use mathlib.Core.Path.{sym, _∙_}
 use borrow.Author.Tests.{ne-eqb}
-use Rattle.pedr_layout.proofs.Frames.{at-1, at-2, at-3, at-4, at-5, at-6, at-7, at-rest}
-use Rattle.pedr_block.specs.declared.Block.the-variants.{Frame7}
-use Rattle.pedr_block_c.specs.Numbers.{blockOfNumbers, otherBlock}
+use Rattle.pedr_layout.proofs.Frames.{at-1, at-2, at-3, at-4, at-5, at-6, at-rest}
+use Rattle.pedr_block_c.specs.Numbers.{blockOfNumbers}
 use borrow.Author.Needs.{needs}
 use Rattle.pedr_block_c.proofs.block_of.Statement.{statement}
 use Rattle.pedr_block_c.proofs.block_of.Tie as tie

@@ -1,6 +1,4 @@
 -- Both cases of the test.
-use mathlib.Core.Path.{_≡_, sym}
-use borrow.Author.Needs.{needs}
 use borrow.Author.Tests.{eq-eqb, ne-eqb}
 use Rattle.pedr_block_c.proofs.other_block.Statement.{statement}
 use Rattle.pedr_block_c.proofs.other_block.Tie as tie

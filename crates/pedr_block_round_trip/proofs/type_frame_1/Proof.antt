@@ -1,6 +1,4 @@
 -- Column by column.
-use Prim.Native.Nat.{ℕ, _<_}
-use mathlib.Core.Path.{_≡_}
 use Rattle.layout.proofs.Row.{_▶_}
 use borrow.Author.Needs.{needs}
 use Rattle.pedr_block_round_trip.proofs.Typed.{one-signed}

@@ -1,6 +1,4 @@
 -- Column by column.
-use Prim.Native.Nat.{ℕ, _<_}
-use mathlib.Core.Path.{_≡_}
 use denote.Ref.{now}
 use Rattle.layout.proofs.Row.{_▶_}
 use borrow.Author.Needs.{needs}

@@ -1,5 +1,5 @@
 -- Frame by frame.
-use mathlib.Core.Path.{_≡_, refl, sym, ap, _∙_}
+use mathlib.Core.Path.{sym, ap, _∙_}
 use denote.Ref.{now}
 use Rattle.pedr_layout.proofs.Frames.{at-1, at-2, at-3, at-4, at-5, at-6, at-rest}
 use Rattle.pedr_block_runs.specs.Carried.{carriedBy, carriedOf}

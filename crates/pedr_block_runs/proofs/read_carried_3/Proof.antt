@@ -1,5 +1,4 @@
 -- One copy at the front of the array.
-use mathlib.Core.Path.{_≡_, refl, sym, ap, _∙_}
 use Rattle.octets.specs.Bytes.{put}
 use Rattle.octets.specs.Table.{octetsAt}
 use Rattle.pedr_block_runs.specs.Carried.{carriedBy}

@@ -2,7 +2,7 @@
 use Prim.Native.Nat.{ℕ}
 use mathlib.Core.List.{List}
 use denote.Ref.{now}
-use mathlib.Core.Path.{_≡_, refl, sym, ap, _∙_}
+use mathlib.Core.Path.{ap, _∙_}
 use Rattle.octets.specs.Bytes.{put}
 use Rattle.octets.specs.Table.{octetsAt}
 use Rattle.pedr_block_runs.specs.Carried.{carriedBy}

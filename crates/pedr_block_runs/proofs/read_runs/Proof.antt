@@ -1,5 +1,5 @@
 -- Frame by frame; the others have no runs.
-use mathlib.Core.Path.{_≡_, refl, sym, ap, _∙_}
+use mathlib.Core.Path.{sym, _∙_}
 use Rattle.pedr_layout.proofs.Frames.{at-3, at-4, at-5, at-6, at-others}
 use Rattle.pedr_block_runs.specs.Runs.{runsOf}
 use borrow.Author.Needs.{needs}

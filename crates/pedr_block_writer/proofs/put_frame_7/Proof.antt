@@ -1,12 +1,12 @@
 -- A store for each column.
-use mathlib.Core.Path.{_≡_, refl, sym, ap, _∙_}
+use mathlib.Core.Path.{refl, ap, _∙_}
 use denote.Ref.{now}
 use lib.ListN.{length}
 use Rattle.octets.specs.Bytes.{Octets}
 use Rattle.octets.specs.Table.{octetsOfAll}
 use Rattle.octets.proofs.Store.{put-length}
 use Rattle.layout.specs.Row.{rowParts}
-use Rattle.layout.proofs.Store.{Puts, stop, _▸_, puts-join}
+use Rattle.layout.proofs.Store.{stop, _▸_, puts-join}
 use Rattle.pedr_layout.specs.Block as columns
 use Rattle.pedr_block_writer.specs.Rows.{frame7Row}
 use Rattle.pedr_block_writer.proofs.Fits.{frame7-fits}

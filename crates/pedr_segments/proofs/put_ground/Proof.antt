@@ -1,6 +1,5 @@
 -- One store for each column, but two for the ground.
 use mathlib.Core.Path.{_≡_, refl, sym, ap, _∙_}
-use denote.Ref.{now}
 use lib.ListN.{length, length-map}
 use mir.Syntax.{w32}
 use mir.Val.{SFits}
@@ -9,7 +8,7 @@ use Rattle.pedr_segments.specs.Parts.{groundParts}
 use Rattle.pedr_segments.proofs.Fits.{groundColumns, ground-fits}
 use Rattle.octets_writer.proofs.Signed.{signed-stored}
 use Rattle.pedr_segments.proofs.Stores.{pair-stored, run-stored}
-use Rattle.layout.proofs.Store.{Puts, stop, _▸_, puts-join}
+use Rattle.layout.proofs.Store.{stop, _▸_, puts-join}
 use borrow.Author.Needs.{needs}
 use Rattle.pedr_segments.proofs.put_ground.Statement.{statement}
 use Rattle.pedr_segments.proofs.put_ground.Tie as tie

@@ -1,6 +1,5 @@
 -- Eight stores, the last for the quality number and its counter.
-use mathlib.Core.Path.{_≡_, refl, sym, ap, _∙_}
-use denote.Ref.{now}
+use mathlib.Core.Path.{refl, ap, _∙_}
 use lib.ListN.{length}
 use mir.Syntax.{w32}
 use mir.Val.{SFits}
@@ -9,7 +8,7 @@ use Rattle.pedr_segments.specs.Parts.{headParts}
 use Rattle.pedr_segments.proofs.Fits.{headColumns, head-fits}
 use Rattle.octets_writer.proofs.Signed.{signed-stored}
 use Rattle.pedr_segments.proofs.Stores.{quality-stored}
-use Rattle.layout.proofs.Store.{Puts, stop, _▸_, puts-join}
+use Rattle.layout.proofs.Store.{stop, _▸_, puts-join}
 use borrow.Author.Needs.{needs}
 use Rattle.pedr_segments.proofs.put_head.Statement.{statement}
 use Rattle.pedr_segments.proofs.put_head.Tie as tie

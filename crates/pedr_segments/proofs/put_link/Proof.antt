@@ -1,13 +1,12 @@
 -- Four stores, one for each column.
-use mathlib.Core.Path.{_≡_, refl, sym, ap, _∙_}
-use denote.Ref.{now}
+use mathlib.Core.Path.{_≡_, refl}
 use lib.ListN.{length}
 use mir.Syntax.{w16, w32}
 use mir.Val.{SFits}
 use Rattle.pedr_segments.specs.Parts.{linkParts}
 use Rattle.pedr_segments.proofs.Fits.{linkColumns, link-fits}
 use Rattle.octets_writer.proofs.Signed.{signed-stored}
-use Rattle.layout.proofs.Store.{Puts, stop, _▸_, puts-join}
+use Rattle.layout.proofs.Store.{stop, _▸_, puts-join}
 use borrow.Author.Needs.{needs}
 use Rattle.pedr_segments.proofs.put_link.Statement.{statement}
 use Rattle.pedr_segments.proofs.put_link.Tie as tie

@@ -1,6 +1,5 @@
 -- The descriptor by two stores, then one for each column.
-use mathlib.Core.Path.{_≡_, refl, sym, ap, _∙_}
-use denote.Ref.{now}
+use mathlib.Core.Path.{_≡_, refl, ap, _∙_}
 use lib.ListN.{length}
 use mir.Syntax.{w32}
 use mir.Val.{SFits}
@@ -9,7 +8,7 @@ use Rattle.pedr_segments.specs.Parts.{radiiParts}
 use Rattle.pedr_segments.proofs.Fits.{radiiColumns, radii-fits}
 use Rattle.octets_writer.proofs.Signed.{signed-stored}
 use Rattle.pedr_segments.proofs.Stores.{descriptor-stored}
-use Rattle.layout.proofs.Store.{Puts, stop, _▸_, puts-join}
+use Rattle.layout.proofs.Store.{stop, _▸_, puts-join}
 use borrow.Author.Needs.{needs}
 use Rattle.pedr_segments.proofs.put_radii.Statement.{statement}
 use Rattle.pedr_segments.proofs.put_radii.Tie as tie

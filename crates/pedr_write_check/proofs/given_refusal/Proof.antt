@@ -1,8 +1,6 @@
 -- Each return is one rung of the ladder.
-use Prim.Native.Nat.{ℕ, _≤_}
 use mathlib.Core.Path.{_≡_, sym, _∙_}
-use mathlib.Core.Bool.{true, false}
-use denote.Ref.{now}
+use mathlib.Core.Bool.{true}
 use mir.Syntax.{w32}
 use mir.Val.{SFits}
 use mir.ValLaws.{toZ-ofZ}

@@ -1,9 +1,8 @@
 -- Nine stores, one for each segment.
-use mathlib.Core.Path.{_≡_, refl, sym, ap, _∙_}
+use mathlib.Core.Path.{_≡_, sym, ap, _∙_}
 use denote.Ref.{now}
 use lib.ListN.{length, length-map}
-use Rattle.octets.proofs.Store.{put-length}
-use Rattle.layout.proofs.Store.{Puts, stop, _▸_}
+use Rattle.layout.proofs.Store.{stop, _▸_}
 use Rattle.pedr_block_writer.specs.Rows.{blockOctets}
 use Rattle.pedr_block_writer.proofs.Fits.{block-length}
 use Rattle.pedr_segments.proofs.Fits.{Sizes}

@@ -1,12 +1,12 @@
 -- Three stores, one for each column.
-use mathlib.Core.Path.{_≡_, refl, sym, ap, _∙_}
+use mathlib.Core.Path.{_≡_, refl, sym}
 use denote.Ref.{now}
 use lib.ListN.{length}
 use native.Mathlib.Omega.{arith}
 use Rattle.pedr_writer.specs.Record.{tailParts}
 use Rattle.pedr_writer.proofs.Fits.{tailColumns, tail-fits}
 use Rattle.pedr_segments.proofs.Stores.{front-copied, rest-copied, run-stored}
-use Rattle.layout.proofs.Store.{Puts, stop, _▸_, puts-join}
+use Rattle.layout.proofs.Store.{stop, _▸_, puts-join}
 use borrow.Author.Needs.{needs}
 use Rattle.pedr_writer.proofs.put_tail.Statement.{statement}
 use Rattle.pedr_writer.proofs.put_tail.Tie as tie
