@@ -29,7 +29,8 @@
  *   15 frame index not 1 to 7                       40 (a class given as unassigned with number 0 or 1: only in Rattle)
  *   16 shot not 1 to 20                             41 output not 776 bytes
  *                                                   42 block and frame index disagree
- *   49 bits given over their width, carried block bytes not as many as the block's layout leaves, or uninterpreted bytes not 220
+ *                                                   49 bits given over their width, carried block bytes not as many as the block's
+ *                                                      layout leaves, or uninterpreted bytes not 220
  */
 #ifndef MOLA_H
 #define MOLA_H
@@ -203,7 +204,7 @@ struct mola_record_arrays {
 
 /* The engineering block of a record is record bytes 509 to 536, counted from 1. Each frame has a layout of its own, PEDRENG1.FMT to PEDRENG7.FMT: its
  * columns that are single numbers, by their names. Frame 4 has none. */
-struct mola_frame_1 {
+struct mola_frame_1 {            /* degrees Celsius * 100 */
     int16_t computer_memory_temperature;
     int16_t computer_cpu_temperature;
     int16_t power_supply_temperature;
@@ -220,7 +221,7 @@ struct mola_frame_1 {
     int16_t honeycomb_panel_temperature;
 };
 
-struct mola_frame_2 {
+struct mola_frame_2 {            /* temperatures in degrees Celsius * 100, voltages in millivolts but for high_voltage_monitor */
     int16_t electronics_box_top_sc_thrmstr;
     int16_t laser_case_hot_foot_temp;
     uint16_t plus_28_volt_voltage_monitor;
@@ -229,17 +230,17 @@ struct mola_frame_2 {
     uint16_t plus_24_volt_voltage_monitor;
     uint16_t plus_5_volt_voltage_monitor;
     uint16_t minus_12_volt_voltage_monitor;
-    uint16_t laser_thermal_current_monitor;
+    uint16_t laser_thermal_current_monitor;     /* milliamperes * 10 */
     uint16_t minus_5_volt_voltage_monitor;
-    uint16_t power_supply_current_monitor;
-    uint16_t high_voltage_monitor;
-    uint16_t minus_12_volt_current_monitor;
-    uint16_t plus_12_volt_current_monitor;
+    uint16_t power_supply_current_monitor;      /* milliamperes * 10 */
+    uint16_t high_voltage_monitor;              /* decivolts */
+    uint16_t minus_12_volt_current_monitor;     /* milliamperes * 100 */
+    uint16_t plus_12_volt_current_monitor;      /* milliamperes * 100 */
 };
 
 struct mola_frame_3 {
-    uint16_t minus_5_volt_current_monitor;
-    uint16_t plus_5_volt_current_monitor;
+    uint16_t minus_5_volt_current_monitor;      /* milliamperes * 100 */
+    uint16_t plus_5_volt_current_monitor;       /* milliamperes * 10 */
     uint8_t current_status_register_value;
     uint8_t software_version_number;
     uint16_t flag_word;
@@ -251,7 +252,7 @@ struct mola_frame_3 {
 };
 
 struct mola_frame_5 {
-    uint32_t hstart_value_histogram_dump;
+    uint32_t hstart_value_histogram_dump;       /* the number as it stands: document 000 does not settle its unit */
     uint16_t valid_commands_received_count;
 };
 
@@ -260,14 +261,14 @@ struct mola_frame_6 {
 };
 
 struct mola_frame_7 {
-    uint32_t ots_range;
-    uint32_t first_ch_received_energy;
-    uint32_t ots_transmit_power;
+    uint32_t ots_range;                         /* centimetres */
+    uint32_t first_ch_received_energy;          /* attojoules */
+    uint32_t ots_transmit_power;                /* nanojoules */
     uint8_t ots_pulse_width;
     uint8_t ots_pulse_amplitude;
     uint8_t ots_qual_flag;
     uint8_t packet_type;
-    uint16_t areocentric_longitude_of_sun;
+    uint16_t areocentric_longitude_of_sun;      /* degrees * 100 */
 };
 
 /* A block's frame and its numbers. The structures of other frames are zeros in what is read, and ignored by the writer. */
@@ -281,7 +282,7 @@ struct mola_block {
     struct mola_frame_7 frame_7;
 };
 
-/* The block's columns of several numbers, a frame's own first. What the frame lacks is zeros in what is read, and ignored by the writer. */
+/* The block's columns of several numbers. The frame's own items come first; what the frame lacks is zeros in what is read, and ignored by the writer. */
 struct mola_block_runs {
     uint16_t status_flags[2];               /* frame 3 */
     uint16_t range_gate_tracker_array[14];  /* 4 in frame 3, 14 in frame 4, 6 in frame 5 */
@@ -386,8 +387,9 @@ struct mola_record mola_read_record(const uint8_t *record, size_t record_len);
 struct mola_shot_read mola_read_shot(const uint8_t *record, size_t record_len, size_t shot);
 
 /* Writes a record of these fields, block, arrays, runs, carried block bytes and uninterpreted bytes into out, with its counter worked out. The widths
- * of 49: good 20 bits, quality's carried 4, descriptor's carried 24, each part of an encoder 2. The number of carried block bytes is that of
- * block.frame, also where the frame index is another. Gives 13, 14, 15, 49, 41, 42, or 0. */
+ * of 49: good 20 bits, quality's carried 4, descriptor's carried 24, each part of an encoder 2. carried_len is 2 for a block of
+ * frame 3, 4 for frame 5, 10 for frame 7 and 0 for the others, whatever the frame index: of the reader's carried, only these first bytes are given. Gives
+ * 13, 14, 15, 49, 41, 42, or 0. */
 uint8_t mola_write_record(struct mola_record_fields fields, struct mola_block block, struct mola_record_arrays arrays, struct mola_block_runs runs,
     const uint8_t *carried, size_t carried_len, const uint8_t *uninterpreted, size_t uninterpreted_len, uint8_t *out, size_t out_len);
 

@@ -1,6 +1,6 @@
 //! The rules of document 01 and of document 02's requests 1 and 2 in plain Rust, written from their text without sight of the library's code: the
-//! reference that the library is compared with, and the baseline of its speed. Where document 01 is silent, on the sum of bytes of another
-//! length, it follows docs/DECISIONS.md.
+//! reference that the library is compared with, and the baseline of its speed. Where they are silent, on the sum of bytes of another
+//! length and on a block of no frame, it follows docs/DECISIONS.md.
 //!
 //! Refusals are document 01's numbers. "A number is given exactly on its condition, the first in the order below", so each function
 //! tests in the order that document 01 lists for it, and nothing is written before the last test is passed.

@@ -1,5 +1,5 @@
-// What C and Rust can rely on: how the structs lie that they share with the exported functions, the refusal that they cannot get, and the one that they get for
-// a block of no frame. A contract may not
+// What C and Rust can rely on: how the structs lie that they share with the exported functions, the refusal that they cannot get, a block's numbers, and what a
+// block of no frame is refused with. A contract may not
 // name how its own crate's structs lie in memory, so that this is a crate above `mola`.
 ghost use Rattle.mola_laws.specs.BlockFrame.{BlockKept, UnknownFrameRefused};
 ghost use Rattle.mola_laws.specs.ClassRefusal.{NoClassRefused};
@@ -21,12 +21,12 @@ pub fn classes_not_refused()
     ensures { λ _. ⌜ NoClassRefused ⌝ }
 {}
 
-// The numbers of a block stand for that block.
+// The numbers of a block say its frame, and stand for that block.
 pub fn block_kept()
     ensures { λ _. ⌜ BlockKept ⌝ }
 {}
 
-// A block whose frame number is none of 1 to 7 is refused.
+// What a block is refused with whose frame number is none of 1 to 7.
 pub fn unknown_frame_refused()
     ensures { λ _. ⌜ UnknownFrameRefused ⌝ }
 {}
