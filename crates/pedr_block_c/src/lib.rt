@@ -153,73 +153,25 @@ fn numbers(
     }
 }
 
-// Reads the block of any bytes, by their frame index, in numbers.
+// Reads the block of any bytes, by their frame index, in numbers; the fields of the other frames are zeros, z1 to z7.
 pub fn read_block(bytes: &[u8]) -> BlockNumbers
     ensures { λ r. ⌜ r ≡ blockNumbers (blockOf (now (bytes .entry))) ⌝ }
 {
-    let frame_1 = no_frame_1();
-    let frame_2 = no_frame_2();
-    let frame_3 = no_frame_3();
-    let frame_5 = no_frame_5();
-    let frame_6 = no_frame_6();
-    let frame_7 = no_frame_7();
+    let z1 = no_frame_1();
+    let z2 = no_frame_2();
+    let z3 = no_frame_3();
+    let z5 = no_frame_5();
+    let z6 = no_frame_6();
+    let z7 = no_frame_7();
     let frame = octets::u16_at(bytes, FRAME_INDEX_AT);
     match frame {
-        1 => numbers(
-            1,
-            pedr_block::read_frame_1(bytes),
-            frame_2,
-            frame_3,
-            frame_5,
-            frame_6,
-            frame_7,
-        ),
-        2 => numbers(
-            2,
-            frame_1,
-            pedr_block::read_frame_2(bytes),
-            frame_3,
-            frame_5,
-            frame_6,
-            frame_7,
-        ),
-        3 => numbers(
-            3,
-            frame_1,
-            frame_2,
-            pedr_block::read_frame_3(bytes),
-            frame_5,
-            frame_6,
-            frame_7,
-        ),
-        4 => numbers(4, frame_1, frame_2, frame_3, frame_5, frame_6, frame_7),
-        5 => numbers(
-            5,
-            frame_1,
-            frame_2,
-            frame_3,
-            pedr_block::read_frame_5(bytes),
-            frame_6,
-            frame_7,
-        ),
-        6 => numbers(
-            6,
-            frame_1,
-            frame_2,
-            frame_3,
-            frame_5,
-            pedr_block::read_frame_6(bytes),
-            frame_7,
-        ),
-        _ => numbers(
-            7,
-            frame_1,
-            frame_2,
-            frame_3,
-            frame_5,
-            frame_6,
-            pedr_block::read_frame_7(bytes),
-        ),
+        1 => numbers(1, pedr_block::read_frame_1(bytes), z2, z3, z5, z6, z7),
+        2 => numbers(2, z1, pedr_block::read_frame_2(bytes), z3, z5, z6, z7),
+        3 => numbers(3, z1, z2, pedr_block::read_frame_3(bytes), z5, z6, z7),
+        4 => numbers(4, z1, z2, z3, z5, z6, z7),
+        5 => numbers(5, z1, z2, z3, pedr_block::read_frame_5(bytes), z6, z7),
+        6 => numbers(6, z1, z2, z3, z5, pedr_block::read_frame_6(bytes), z7),
+        _ => numbers(7, z1, z2, z3, z5, z6, pedr_block::read_frame_7(bytes)),
     }
 }
 
