@@ -1,4 +1,6 @@
 // The check of an AEDR file's pieces: what document 01's program prints, as text in lent bytes.
+#![tactic(auto)]
+
 ghost use Rattle.std.specs.Prelude.{◌≡◌, ◌+◌, ◌*◌, ◌<◌, ◌≤◌, ◌^◌, length, take};
 ghost use Rattle.octets.specs.Bytes.{put};
 ghost use Rattle.aedr.specs.Decimal.{decimal};

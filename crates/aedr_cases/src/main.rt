@@ -1,5 +1,7 @@
 // Checks files of data/, one after the other, and last a descriptor that is not open. After each name stands what the check prints, then what
 // it answers. The files, and what is to be printed for them, were worked out apart from this program and the library.
+#![tactic(auto)]
+
 use aedr_io::Checked;
 use libc::STDOUT_FILENO;
 

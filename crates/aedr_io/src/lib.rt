@@ -9,6 +9,8 @@
 //   `program_output::print` is that of the text there, not that these bytes are what is written;
 // - that a failure is told.
 // A program that reads nothing and writes nothing would meet the promise of `check_file`.
+#![tactic(auto)]
+
 ghost use Rattle.std.specs.Prelude.{◌≡◌, ◌*◌, ◌≤◌, length};
 ghost use Rattle.program_io.specs.Next.{chunks_most};
 ghost use Rattle.aedr.specs.Chunks.{chunk_pieces, chunk_size, chunk_room};
@@ -33,7 +35,7 @@ fn records_after(next: Next, records: u64, read: usize) -> u64
 }
 
 // What a chunk came to: its bytes, the printing of its text, what follows, and the pieces whose lines were written so far.
-#[derive(Drop)]
+#[derive(Clone, Copy)]
 struct Progress {
     chunk: Chunk,
     printed: Printed,
@@ -61,7 +63,7 @@ fn print_chunk(fd: i32, full: u64, records: u64, buf: &mut [u8], out: &mut [u8])
 }
 
 // What the chunks came to: how many filled the buffer and were written, and the one after them.
-#[derive(Drop)]
+#[derive(Clone, Copy)]
 struct Chunks {
     full: u64,
     last: Progress,
@@ -87,7 +89,7 @@ fn print_chunks(fd: i32, buf: &mut [u8], out: &mut [u8]) -> Chunks
 
 // How many pieces had their lines written, and whether the input ended and all was written, the closing line too. For the contracts: how many
 // chunks filled the buffer and were written, the one after them, and the printing of the last text.
-#[derive(Drop)]
+#[derive(Clone, Copy)]
 pub struct Checked {
     pub records: u64,
     pub complete: bool,

@@ -1,4 +1,6 @@
 // The sum of the words of any bytes, and the packet sum. Both are added from the lent bytes in place.
+#![tactic(auto)]
+
 ghost use Rattle.std.specs.Prelude.{◌≡◌, ◌+◌, ◌*◌, ◌%◌, ◌<◌, ◌≤◌, length, slice_index};
 ghost use Rattle.checksum.specs.Sum.{word_sum, packet_sum};
 

@@ -1,9 +1,11 @@
 // The sum of words of bytes that are cut in two, of the definition and of the code.
+#![tactic(auto)]
+
 ghost use Rattle.std.specs.Prelude.{◌≡◌};
 ghost use Rattle.checksum_laws.specs.Parts.{PartsAdd, part_sums};
 
 // The sums of the words of two parts, and both added.
-#[derive(Drop)]
+#[derive(Clone, Copy)]
 pub struct PartSums {
     pub before: u16,
     pub after: u16,

@@ -1,4 +1,6 @@
 // The functions for C and Rust (include/mola.h). Each answers in numbers: a refusal is its number, which is never 0.
+#![tactic(auto)]
+
 ghost use Rattle.std.specs.Prelude.{◌≡◌, ◌%◌};
 ghost use Rattle.checksum.specs.Sum.{word_sum, packet_sum};
 ghost use Rattle.packet_check.specs.Refusal.{read_refusal};
@@ -30,7 +32,7 @@ use reorder_session::Session;
 
 // A packet's refusal number and zeros; or 0 and its fields and arrays.
 #[repr(C)]
-#[derive(Drop)]
+#[derive(Clone, Copy)]
 pub struct FieldsAnswer {
     pub refusal: u32,
     pub fields: PacketFields,

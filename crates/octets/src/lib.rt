@@ -1,5 +1,7 @@
 // Numbers in lent bytes, the most significant byte first, and bytes copied from one slice to another. Every function takes any slice and
 // any index: a byte past the end is read as 0, and one that would be stored past the end is left out.
+#![tactic(auto)]
+
 ghost use Rattle.std.specs.Prelude.{◌≡◌, ◌+◌, min, length, get_or};
 ghost use Rattle.octets.specs.Bytes.{nat_at, int_at, signed, put};
 ghost use Rattle.octets.specs.Table.{octets_at};

@@ -1,4 +1,6 @@
 // Runs of numbers in lent bytes, the most significant byte first. Every function takes any slice and any index: a byte past the end is read as 0.
+#![tactic(auto)]
+
 ghost use Rattle.std.specs.Prelude.{◌≡◌, ◌+◌, ◌*◌, ◌<◌, ◌≤◌, leb, length};
 ghost use Rattle.octets.specs.Table.{nats_at};
 

@@ -1,5 +1,7 @@
 // Runs of numbers and bytes stored in lent bytes, the most significant byte first. Every function takes any slices and any index: a byte that would be stored
 // past the end is left out.
+#![tactic(auto)]
+
 ghost use Rattle.std.specs.Prelude.{◌≡◌};
 ghost use Rattle.octets.specs.Bytes.{put};
 ghost use Rattle.octets.specs.Table.{octets_at, octets_of_all};

@@ -1,5 +1,7 @@
 // Numbers stored in lent bytes, the most significant byte first. Every function takes any slice and any index: a byte that would be stored past the
 // end is left out.
+#![tactic(auto)]
+
 ghost use Rattle.std.specs.Prelude.{◌≡◌};
 ghost use Rattle.octets.specs.Bytes.{octets_of, complemented, put};
 

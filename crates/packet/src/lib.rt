@@ -1,4 +1,6 @@
 // The 1,080-byte science packet: its fields and the reader.
+#![tactic(auto)]
+
 ghost use Rattle.std.specs.Prelude.{◌≡◌};
 ghost use Rattle.octets.specs.Refusal.{refusal_in};
 ghost use Rattle.packet.specs.Fields.{fields_of, arrays_of, carried_of};
@@ -11,7 +13,7 @@ use packet_layout::{
 
 // The free fields that are single numbers, laid out as C does.
 #[repr(C)]
-#[derive(Drop)]
+#[derive(Clone, Copy)]
 pub struct PacketFields {
     pub error_status: u8,
     pub count: u16,
@@ -32,7 +34,7 @@ pub struct PacketFields {
 
 // The free fields that are arrays; the bins in bin order.
 #[repr(C)]
-#[derive(Drop)]
+#[derive(Clone, Copy)]
 pub struct PacketArrays {
     pub temperatures: [u8; TEMPERATURES],
     pub readings: [u8; READINGS],
@@ -40,14 +42,14 @@ pub struct PacketArrays {
 }
 
 // A refusal with its number, or the fields of an accepted packet.
-#[derive(Drop)]
+#[derive(Clone, Copy)]
 pub enum PacketAnswer {
     Refused(u8),
     Accepted(PacketFields),
 }
 
 // The reader's answer, and beside it the arrays, which are all zeros on a refusal.
-#[derive(Drop)]
+#[derive(Clone, Copy)]
 pub struct PacketRead {
     pub answer: PacketAnswer,
     pub arrays: PacketArrays,

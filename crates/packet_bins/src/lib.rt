@@ -1,4 +1,6 @@
 // The histogram of the science packet: its 48 bins, and where they start.
+#![tactic(auto)]
+
 ghost use Rattle.std.specs.Prelude.{◌≡◌, ◌<◌};
 ghost use Rattle.packet_layout.specs.Layout.{histogram};
 ghost use Rattle.packet_bins.specs.Bins.{bin_byte, bins_of, first_bin, bin_starts};

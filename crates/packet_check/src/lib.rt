@@ -1,4 +1,6 @@
 // The check of the science packet: refusals 1 to 10, without its fields.
+#![tactic(auto)]
+
 ghost use Rattle.std.specs.Prelude.{◌≡◌};
 ghost use Rattle.packet_check.specs.Header.{header_refusal};
 ghost use Rattle.packet_check.specs.Refusal.{read_refusal};

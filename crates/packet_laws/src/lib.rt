@@ -1,4 +1,6 @@
 // The packet's two round trips, of the definitions and of the code.
+#![tactic(auto)]
+
 ghost use Rattle.std.specs.Prelude.{◌≡◌};
 ghost use Rattle.packet.specs.Read.{packet_said};
 ghost use Rattle.packet_writer.specs.Write.{written_said, write_bytes};

@@ -1,4 +1,6 @@
 // The published layout of the 1,080-byte science packet: its table of columns, which covers it, and its numbers for callers.
+#![tactic(auto)]
+
 ghost use Rattle.std.specs.Prelude.{◌≡◌};
 ghost use Rattle.packet_layout.specs.SumWord.{is_sum_word};
 ghost use Rattle.packet_layout.specs.Cover.{LayoutCovers};

@@ -56,7 +56,7 @@ fn base_word(fill: u64, w: usize) -> u32
 }
 
 // Where a field stands: its word, its lowest bit there, and its highest number.
-#[derive(Drop)]
+#[derive(Clone, Copy)]
 struct Spot(usize, u32, u32);
 
 fn spot_of(field: u64, value: u64) -> Spot {

@@ -1,5 +1,7 @@
 // Vectors of the science packet: reads, refusals, writes and sums at each boundary of its rules. The cases stand in tables.rt, and each prints one
 // line with its row's number, from 0. What they have to print, in the file stdout, was worked out apart from this program and the library.
+#![tactic(auto)]
+
 mod build;
 mod reads;
 mod show;

@@ -377,7 +377,7 @@ const SUMS: [u64; 16] = [
     RAW_ONES + SIZE + 2160 + AND * (WORD + 540),
 ];
 
-#[derive(Drop)]
+#[derive(Clone, Copy)]
 pub enum Table {
     Reads,
     Checks,

@@ -1,4 +1,6 @@
 // The writer of the 1,080-byte science packet.
+#![tactic(auto)]
+
 ghost use Rattle.std.specs.Prelude.{◌≡◌, ◌-◌, ◌≤◌, ◌<◌, length};
 ghost use Rattle.layout.specs.Column.{join};
 ghost use Rattle.packet_layout.specs.Layout as columns;
@@ -14,7 +16,7 @@ use packet_layout::{
 };
 
 // A refusal with its number, or the packet is in the output.
-#[derive(Drop)]
+#[derive(Clone, Copy)]
 pub enum PacketWritten {
     Refused(u8),
     Written,

@@ -1,4 +1,6 @@
 // The 776-byte PEDR record read.
+#![tactic(auto)]
+
 ghost use Rattle.std.specs.Prelude.{◌≡◌};
 ghost use Rattle.octets.specs.Refusal.{refusal_in};
 ghost use Rattle.pedr.specs.Read.{record_said, read_due, read_arrays, read_runs, read_carried, read_uninterpreted};
@@ -10,7 +12,7 @@ use pedr_fields::RecordFields;
 use pedr_layout::{CARRIED_MOST, UNINTERPRETED};
 
 // A refusal with its number, or the fields of an accepted record and the engineering block of its frame.
-#[derive(Drop)]
+#[derive(Clone, Copy)]
 pub enum RecordAnswer {
     Refused(u8),
     Accepted(RecordFields, Block),
@@ -18,7 +20,7 @@ pub enum RecordAnswer {
 
 // The reader's answer, and beside it the arrays, the block's runs of items and carried bytes, and the bytes that are not interpreted (record bytes 537 to 620,
 // and then 641 to 776). On a refusal all of these are zeros.
-#[derive(Drop)]
+#[derive(Clone, Copy)]
 pub struct RecordRead {
     pub answer: RecordAnswer,
     pub arrays: RecordArrays,

@@ -1,4 +1,6 @@
 // The columns of a PEDR record that are several numbers, and its uninterpreted bytes.
+#![tactic(auto)]
+
 ghost use Rattle.std.specs.Prelude.{◌≡◌};
 ghost use Rattle.octets.specs.Table.{nats_at};
 ghost use Rattle.layout.specs.Column.{values};
@@ -14,13 +16,13 @@ use pedr_layout::{
 };
 
 // The class of one shot. A struct's array may hold structs, not enums.
-#[derive(Drop)]
+#[derive(Clone, Copy)]
 pub struct ShotClass {
     pub class: Class,
 }
 
 // The columns of 20 shots; shot s stands at index s - 1.
-#[derive(Drop)]
+#[derive(Clone, Copy)]
 pub struct ShotArrays {
     pub radius: [u32; SHOTS],
     pub energy: [u16; SHOTS],
@@ -36,14 +38,14 @@ pub struct ShotArrays {
 
 // The columns of the 4 channels, in the first half of the frame and then in the second.
 #[repr(C)]
-#[derive(Drop)]
+#[derive(Clone, Copy)]
 pub struct ChannelArrays {
     pub noise: [u32; 8],
     pub thresholds: [u16; 8],
 }
 
 // The columns of several numbers.
-#[derive(Drop)]
+#[derive(Clone, Copy)]
 pub struct RecordArrays {
     pub shots: ShotArrays,
     pub channels: ChannelArrays,

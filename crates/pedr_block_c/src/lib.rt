@@ -1,4 +1,6 @@
 // The PEDR record's engineering block in structs of numbers, for callers in languages that have no such enums.
+#![tactic(auto)]
+
 ghost use Rattle.std.specs.Prelude.{◌≡◌};
 ghost use Rattle.pedr_block.specs.Block.{block_of};
 ghost use Rattle.pedr_block_c.specs.Numbers.{no_frame_1, no_frame_2, no_frame_3, no_frame_5, no_frame_6, no_frame_7, no_block, block_numbers, other_block, block_of_numbers};
@@ -12,7 +14,7 @@ use pedr_layout::FRAME_INDEX_AT;
 // The frame, 1 to 7, or 0 where there is none, and the fields of each frame that has some. Those of the other frames are zeros where they are given, and are
 // not looked at where they are taken.
 #[repr(C)]
-#[derive(Drop)]
+#[derive(Clone, Copy)]
 pub struct BlockNumbers {
     pub frame: u32,
     pub frame_1: Frame1Fields,

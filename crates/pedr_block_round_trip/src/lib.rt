@@ -1,4 +1,6 @@
 // The engineering block's round trips: what the types of a block, its runs and its carried bytes say of their numbers.
+#![tactic(auto)]
+
 ghost use Rattle.layout.specs.Row.{RowHolds};
 ghost use Rattle.pedr_layout.specs.Block as columns;
 ghost use Rattle.pedr_block_writer.specs.Rows as rows;

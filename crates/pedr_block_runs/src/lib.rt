@@ -1,4 +1,6 @@
 // The engineering block of a PEDR record: the columns of its frame that are runs of items, and the bytes that its layout leaves unnamed.
+#![tactic(auto)]
+
 ghost use Rattle.std.specs.Prelude.{◌≡◌};
 ghost use Rattle.pedr_layout.specs.Block as columns;
 ghost use Rattle.pedr_block_runs.specs.Runs.{no_runs, runs_in3, runs_in4, runs_in5, runs_in6, runs_of};
@@ -8,7 +10,7 @@ use pedr_layout::{CARRIED_MOST, FRAME_INDEX_AT};
 
 // The runs of items, each number as it stands in the record. What the frame lacks, whole runs and the items behind its own, is zeros.
 #[repr(C)]
-#[derive(Drop)]
+#[derive(Clone, Copy)]
 pub struct BlockRuns {
     pub status_flags: [u16; 2],
     pub range_gate_tracker_array: [u16; 14],

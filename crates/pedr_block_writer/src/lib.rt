@@ -1,4 +1,6 @@
 // The engineering block of a PEDR record, stored: record bytes 509 to 536.
+#![tactic(auto)]
+
 ghost use Rattle.std.specs.Prelude.{◌≡◌};
 ghost use Rattle.octets.specs.Bytes.{put};
 ghost use Rattle.octets.specs.Table.{octets_of_all};

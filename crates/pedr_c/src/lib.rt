@@ -1,4 +1,6 @@
 // The PEDR record's answers in structs of numbers, for callers in languages that have no such enums: a class is its number.
+#![tactic(auto)]
+
 ghost use Rattle.std.specs.Prelude.{◌≡◌, map};
 ghost use Rattle.pedr_arrays.specs.Arrays.{shot_class, classes_of, arrays_of, shot_class_number};
 ghost use Rattle.pedr.specs.Read.{read_due, read_arrays, read_runs, read_carried, read_uninterpreted};
@@ -15,7 +17,7 @@ use pedr_layout::{CARRIED_MOST, CLASS_AT, SHOTS, UNINTERPRETED};
 
 // The columns of 20 shots, a class by its number; shot s stands at index s - 1.
 #[repr(C)]
-#[derive(Drop)]
+#[derive(Clone, Copy)]
 pub struct ShotNumbers {
     pub radius: [u32; SHOTS],
     pub energy: [u16; SHOTS],
@@ -31,7 +33,7 @@ pub struct ShotNumbers {
 
 // The columns of several numbers.
 #[repr(C)]
-#[derive(Drop)]
+#[derive(Clone, Copy)]
 pub struct ArrayNumbers {
     pub shots: ShotNumbers,
     pub channels: ChannelArrays,
@@ -41,7 +43,7 @@ pub struct ArrayNumbers {
 
 // A record's refusal number and zeros; or 0 and what the record holds.
 #[repr(C)]
-#[derive(Drop)]
+#[derive(Clone, Copy)]
 pub struct RecordNumbers {
     pub refusal: u32,
     pub fields: RecordFields,

@@ -1,4 +1,6 @@
 // The refusals of a PEDR record.
+#![tactic(auto)]
+
 ghost use Rattle.std.specs.Prelude.{◌≡◌, leb, nat_abs};
 ghost use Rattle.pedr_check.specs.Refusal.{values_refusal, record_refusal};
 

@@ -1,4 +1,6 @@
 // The classes and encoder bits of a PEDR record's 20 shots, to be written: whether they can be, and their numbers.
+#![tactic(auto)]
+
 ghost use Rattle.std.specs.Prelude.{◌≡◌, map};
 ghost use Rattle.octets.specs.Table.{each};
 ghost use Rattle.pedr_flags_writer.specs.Encoder.{encoder_byte};

@@ -1,4 +1,6 @@
 // The columns of a PEDR record that are single numbers, group by group.
+#![tactic(auto)]
+
 ghost use Rattle.std.specs.Prelude.{◌≡◌};
 ghost use Rattle.pedr_fields.specs.Fields.{time_of, position_of, pointing_of, ranges_of, receiver_of, link_of, fields_of};
 ghost use Rattle.pedr_fields.specs.Time.{time_in_micros};
@@ -8,7 +10,7 @@ use pedr_layout::{FRAME_INDEX_AT, LATITUDE_AT, TIME_MICROS_AT};
 
 // The frame's mid-point, in seconds and microseconds since J2000; either may be negative.
 #[repr(C)]
-#[derive(Drop)]
+#[derive(Clone, Copy)]
 pub struct FrameTime {
     pub whole: i32,
     pub micros: i32,
@@ -16,7 +18,7 @@ pub struct FrameTime {
 
 // The orbit, where the spacecraft is, and where the frame's mid-point meets the ground.
 #[repr(C)]
-#[derive(Drop)]
+#[derive(Clone, Copy)]
 pub struct OrbitPosition {
     pub orbit: u32,
     pub latitude: i32,
@@ -28,7 +30,7 @@ pub struct OrbitPosition {
 
 // Where the instrument points.
 #[repr(C)]
-#[derive(Drop)]
+#[derive(Clone, Copy)]
 pub struct Pointing {
     pub right_ascension: i32,
     pub declination: i32,
@@ -37,7 +39,7 @@ pub struct Pointing {
 
 // The frame's range and radius, and the range gate.
 #[repr(C)]
-#[derive(Drop)]
+#[derive(Clone, Copy)]
 pub struct Ranges {
     pub mid_point_range: u32,
     pub frame_radius: u32,
@@ -47,7 +49,7 @@ pub struct Ranges {
 
 // The receiver and its tracking algorithm.
 #[repr(C)]
-#[derive(Drop)]
+#[derive(Clone, Copy)]
 pub struct Receiver {
     pub channel_mask: u16,
     pub minimum_hits: u16,
@@ -59,7 +61,7 @@ pub struct Receiver {
 
 // The time of the packet that the frame came in.
 #[repr(C)]
-#[derive(Drop)]
+#[derive(Clone, Copy)]
 pub struct PacketLink {
     pub seconds: i32,
     pub millis: i16,
@@ -68,7 +70,7 @@ pub struct PacketLink {
 
 // The columns that are single numbers.
 #[repr(C)]
-#[derive(Drop)]
+#[derive(Clone, Copy)]
 pub struct RecordFields {
     pub time: FrameTime,
     pub position: OrbitPosition,

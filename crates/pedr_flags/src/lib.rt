@@ -1,4 +1,6 @@
 // The flags and codes of the PEDR record: quality, descriptor, class and encoder bits.
+#![tactic(auto)]
+
 ghost use Rattle.std.specs.Prelude.{◌≡◌, ◌<◌, ◌≤◌, eqb};
 ghost use Rattle.numbers.specs.Bit.{bit};
 ghost use Rattle.octets.specs.Bytes.{nat_at};
@@ -13,7 +15,7 @@ use pedr_layout::{QUALITY_COUNTER_AT, QUALITY_NUMBER_AT, SHOTS};
 
 // Bits 0 to 19 of the quality number, of which bit 20 - s is set for a good shot s; its bits 20 to 23, carried; the counter.
 #[repr(C)]
-#[derive(Drop)]
+#[derive(Clone, Copy)]
 pub struct Quality {
     pub good: u32,
     pub carried: u8,
@@ -22,7 +24,7 @@ pub struct Quality {
 
 // The tests of the packet and frame, each true where it failed; bits 104 to 127 of the descriptor, carried.
 #[repr(C)]
-#[derive(Drop)]
+#[derive(Clone, Copy)]
 pub struct Descriptor {
     pub packet_sum: bool,
     pub software_sum: bool,
@@ -33,7 +35,7 @@ pub struct Descriptor {
 
 // The tests of one shot, each true where it failed.
 #[repr(C)]
-#[derive(Drop)]
+#[derive(Clone, Copy)]
 pub struct ShotFailures {
     pub power: bool,
     pub energy: bool,
@@ -43,21 +45,21 @@ pub struct ShotFailures {
 }
 
 // Whether a shot is good, and the tests that it failed.
-#[derive(Drop)]
+#[derive(Clone, Copy)]
 pub struct ShotFlags {
     pub good: bool,
     pub failures: ShotFailures,
 }
 
 // A refusal with its number, or the shot's flags.
-#[derive(Drop)]
+#[derive(Clone, Copy)]
 pub enum ShotFlagsAnswer {
     Refused(u8),
     Accepted(ShotFlags),
 }
 
 // What a shot met: false or no trigger (0), probable ground (1), or a number that is not assigned.
-#[derive(Drop)]
+#[derive(Clone, Copy)]
 pub enum Class {
     NoTrigger,
     ProbableGround,
@@ -66,7 +68,7 @@ pub enum Class {
 
 // The two encoders' bits, with bits 2-3 and 6-7 of the byte, carried.
 #[repr(C)]
-#[derive(Drop)]
+#[derive(Clone, Copy)]
 pub struct Encoder {
     pub start: u8,
     pub carried_low: u8,

@@ -1,4 +1,6 @@
 // The flags and codes of the PEDR record put together: quality number, encoder byte and descriptor.
+#![tactic(auto)]
+
 ghost use Rattle.std.specs.Prelude.{◌≡◌, ◌+◌, ◌*◌, ◌^◌, ◌<◌, map};
 ghost use Rattle.numbers.specs.Bit.{digit, from_bits};
 ghost use Rattle.pedr_flags.specs.Quality.{good_count};
@@ -10,7 +12,7 @@ use pedr_flags::{Descriptor, Encoder, Quality, ShotFailures};
 use pedr_layout::SHOTS;
 
 // The descriptor's 128 bits as two numbers: bits 64 to 127, and bits 0 to 63.
-#[derive(Drop)]
+#[derive(Clone, Copy)]
 pub struct DescriptorWords {
     pub high: u64,
     pub low: u64,

@@ -1,4 +1,6 @@
 // The PEDR record's theorems: the shot entry agrees with the reader, flags and codes lose no bit, and a block is of its frame index.
+#![tactic(auto)]
+
 ghost use Rattle.std.specs.Prelude.{◌≡◌};
 ghost use Rattle.pedr_laws.specs.Frame.{CaseIsIndex, frame_read};
 ghost use Rattle.pedr_laws.specs.Shots.{ShotsAgree};

@@ -1,4 +1,6 @@
 // The PEDR record's two round trips, of the definitions and of the code.
+#![tactic(auto)]
+
 ghost use Rattle.std.specs.Prelude.{◌≡◌, map, take};
 ghost use Rattle.layout.specs.Column.{unsigned, complement, HoldsAll};
 ghost use Rattle.pedr.specs.Read.{record_said};

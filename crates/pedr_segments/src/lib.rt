@@ -1,4 +1,6 @@
 // Segments of the 776-byte PEDR record, stored: its columns from byte 1 to byte 508.
+#![tactic(auto)]
+
 ghost use Rattle.std.specs.Prelude.{◌≡◌, map};
 ghost use Rattle.octets.specs.Bytes.{complemented, put};
 ghost use Rattle.octets.specs.Table.{octets_of_all};

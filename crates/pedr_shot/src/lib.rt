@@ -1,4 +1,6 @@
 // One shot of a PEDR record.
+#![tactic(auto)]
+
 ghost use Rattle.std.specs.Prelude.{◌≡◌, ◌≤◌};
 ghost use Rattle.octets.specs.Refusal.{refusal_in};
 ghost use Rattle.pedr_layout.specs.Layout.{shot_count};
@@ -12,7 +14,7 @@ use pedr_layout::{
 };
 
 // A shot's value of each column of 20, whether it is good, and the tests that it failed.
-#[derive(Drop)]
+#[derive(Clone, Copy)]
 pub struct ShotFields {
     pub radius: u32,
     pub energy: u16,
@@ -28,7 +30,7 @@ pub struct ShotFields {
 }
 
 // A refusal with its number, or the shot's fields.
-#[derive(Drop)]
+#[derive(Clone, Copy)]
 pub enum ShotAnswer {
     Refused(u8),
     Accepted(ShotFields),

@@ -1,4 +1,6 @@
 // One shot of the PEDR record in a struct of numbers, for callers in languages that have no such enums: its class is its number.
+#![tactic(auto)]
+
 ghost use Rattle.std.specs.Prelude.{◌≡◌};
 ghost use Rattle.pedr_shot.specs.Shot.{shot_due};
 ghost use Rattle.pedr_shot_c.specs.Shot.{no_shot, one_shot, shot_read};
@@ -8,7 +10,7 @@ use pedr_shot::{ShotAnswer, ShotFields};
 
 // A shot's value of each column of 20, its class by its number, whether it is good, and the tests that it failed.
 #[repr(C)]
-#[derive(Drop)]
+#[derive(Clone, Copy)]
 pub struct OneShot {
     pub radius: u32,
     pub energy: u16,
@@ -25,7 +27,7 @@ pub struct OneShot {
 
 // A refusal number and zeros; or 0 and the shot.
 #[repr(C)]
-#[derive(Drop)]
+#[derive(Clone, Copy)]
 pub struct ShotRead {
     pub refusal: u32,
     pub shot: OneShot,

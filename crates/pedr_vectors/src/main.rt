@@ -1,6 +1,8 @@
 // Vectors of the PEDR record: whole records and single shots, on both sides of every boundary that decides about them. cases.rt has the rows;
 // each that reads prints its number, from 0, and the answer. The file stdout was made from the rules alone, by a program that shares only the
 // rows with this one.
+#![tactic(auto)]
+
 mod cases;
 mod fields;
 mod frames;

@@ -1,4 +1,6 @@
 // The PEDR record written from structs of numbers, for callers in languages that have no such enums.
+#![tactic(auto)]
+
 ghost use Rattle.std.specs.Prelude.{◌≡◌};
 ghost use Rattle.pedr_block_c.specs.Numbers.{block_of_numbers};
 ghost use Rattle.pedr_c.specs.Back.{arrays_of_numbers};

@@ -1,4 +1,6 @@
 // The refusals of the fields and arrays of a PEDR record to be written.
+#![tactic(auto)]
+
 ghost use Rattle.std.specs.Prelude.{◌≡◌};
 ghost use Rattle.pedr_write_check.specs.Refusal.{given_refusal};
 

@@ -1,4 +1,6 @@
 // The refusals of a PEDR record to be written.
+#![tactic(auto)]
+
 ghost use Rattle.std.specs.Prelude.{◌≡◌};
 ghost use Rattle.pedr_write_refusal.specs.Refusal.{write_refusal};
 

@@ -1,4 +1,6 @@
 // The writer of the 776-byte PEDR record.
+#![tactic(auto)]
+
 ghost use Rattle.std.specs.Prelude.{◌≡◌, length};
 ghost use Rattle.octets.specs.Bytes.{put};
 ghost use Rattle.layout.specs.Column.{join};
@@ -16,7 +18,7 @@ use pedr_layout::{
 };
 
 // A refusal with its number, or the record is in the output.
-#[derive(Drop)]
+#[derive(Clone, Copy)]
 pub enum RecordWritten {
     Refused(u8),
     Written,

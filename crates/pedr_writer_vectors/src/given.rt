@@ -8,7 +8,7 @@ use pedr_fields::RecordFields;
 use pedr_layout::{RECORD_SIZE, UNINTERPRETED};
 
 // The carried bytes that are lent are the first of 16, the uninterpreted ones the first of 256.
-#[derive(Drop)]
+#[derive(Clone, Copy)]
 pub(crate) struct Given {
     pub fields: RecordFields,
     pub block: Block,

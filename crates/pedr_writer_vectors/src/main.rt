@@ -1,5 +1,7 @@
 // Vectors of the record writer: fields on both sides of every boundary that decides about them. cases.rt has the rows; each that writes prints its
 // number, from 0, and the answer. The file stdout was made from the rules alone, by a program that shares only the rows with this one.
+#![tactic(auto)]
+
 mod cases;
 mod changes;
 mod given;

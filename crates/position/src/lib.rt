@@ -1,4 +1,6 @@
 // The position of a packet, from its count and its clock together (document 01, "The rack").
+#![tactic(auto)]
+
 ghost use Rattle.std.specs.Prelude.{◌≡◌, leb, nat_abs};
 ghost use Rattle.std.specs.Int.Signed.{shr_z};
 ghost use Rattle.position.specs.Position.{located_said, position};
@@ -16,14 +18,14 @@ const ROUND: i64 = SECONDS * COUNTS;
 
 // Count and coarse time of the packet that has position 0.
 #[repr(C)]
-#[derive(Drop)]
+#[derive(Clone, Copy)]
 pub struct Anchor {
     pub count: u32,
     pub time: u32,
 }
 
 // The position, negative before the anchor, or that none fits.
-#[derive(Drop)]
+#[derive(Clone, Copy)]
 pub enum Located {
     At(i64),
     Nowhere,

@@ -4,11 +4,13 @@
 // No contract can say what a call of the system moves. So this stays unproved, and tests/program.rs runs a program on inputs that fail:
 // - that the bytes in a buffer come from the descriptor: `fill` promises how many of them are a chunk's, not which they are;
 // - that a failure is told on standard error.
+#![tactic(auto)]
+
 ghost use Rattle.std.specs.Prelude.{◌≡◌, length};
 ghost use Rattle.program_input.specs.Chunk.{read_meaning, ReadWithin, ReadsWithin, after_read, ChunkWithin, chunk_bytes};
 
 // What a read came to.
-#[derive(Drop)]
+#[derive(Clone, Copy)]
 enum Read {
     Failed,
     End,
@@ -16,7 +18,7 @@ enum Read {
 }
 
 // What the reads of a chunk came to: a read failed; they filled the buffer, by so many bytes; or the input ended after so many.
-#[derive(Drop)]
+#[derive(Clone, Copy)]
 pub enum Chunk {
     Failed,
     Full(usize),
@@ -24,7 +26,7 @@ pub enum Chunk {
 }
 
 // What follows a read: another, after so many bytes, or none.
-#[derive(Drop)]
+#[derive(Clone, Copy)]
 enum ReadStep {
     More(usize),
     Done(Chunk),

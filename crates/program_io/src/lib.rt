@@ -2,6 +2,8 @@
 //
 // What stays unproved of reading and writing stands at the head of the crates `program_input` and `program_output`. That an input which is too long is told on
 // standard error is unproved too, and not run: it has more than 2^40 chunks.
+#![tactic(auto)]
+
 ghost use Rattle.std.specs.Prelude.{◌≡◌};
 ghost use Rattle.program_output.specs.Written.{is_whole};
 ghost use Rattle.program_io.specs.Next.{after_full, after_chunk, is_continue, is_close};
@@ -14,7 +16,7 @@ pub const CHUNKS: u64 = 1 << 40;
 
 // What follows a chunk: another chunk; the closing text, for the input has ended; nothing, for a read or a write failed; or nothing, for CHUNKS were
 // read.
-#[derive(Drop)]
+#[derive(Clone, Copy)]
 pub enum Next {
     Continue,
     Close,

@@ -5,34 +5,36 @@
 // - which bytes are written, and where: `print` and `print_error` promise the length of the text that was handed to them and what the last write's answer
 //   means, not that the bytes of this text are what is written;
 // - that a failure is told on standard error.
+#![tactic(auto)]
+
 ghost use Rattle.std.specs.Prelude.{◌≡◌, ◌+◌, ◌≤◌, length};
 ghost use Rattle.program_output.specs.Written.{write_meaning, WroteWithin, bytes_taken, after_write, TextWritten};
 
 use libc::{STDERR_FILENO, STDOUT_FILENO};
 
 // What a write came to.
-#[derive(Drop)]
+#[derive(Clone, Copy)]
 pub enum Wrote {
     Failed,
     Bytes(usize),
 }
 
 // What the writes of a text came to: one failed, after so many bytes; or all of the text was taken.
-#[derive(Drop)]
+#[derive(Clone, Copy)]
 pub enum Written {
     Failed(usize),
     Whole,
 }
 
 // What follows a write: another, after so many bytes, or none.
-#[derive(Drop)]
+#[derive(Clone, Copy)]
 enum WriteStep {
     More(usize),
     Done(Written),
 }
 
 // What printing a text came to. For the contracts: the text's length, how many of its bytes were taken before the last write, and what that came to.
-#[derive(Drop)]
+#[derive(Clone, Copy)]
 pub struct Printed {
     size: usize,
     before: usize,

@@ -1,4 +1,6 @@
 // What an offer of a packet answers: where the packet is held, or why it is refused (document 01, "The rack").
+#![tactic(auto)]
+
 ghost use Rattle.std.specs.Prelude.{◌≡◌};
 ghost use Rattle.position.specs.Position.{located_said};
 ghost use Rattle.window.specs.Window.{held_at};
@@ -12,7 +14,7 @@ use reorder_session::Session;
 use window::Window;
 
 // A refusal with its number, or the position that the packet is held at. An opening holds its packet at position 0.
-#[derive(Drop)]
+#[derive(Clone, Copy)]
 pub enum OfferAnswer {
     Refused(u8),
     Held(u32),

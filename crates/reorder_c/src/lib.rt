@@ -1,5 +1,7 @@
 // The reorder buffer's calls by value, with their answers in structs of numbers: what the functions for C and Rust stand on. Each call promises what
 // the call by value does, of what its numbers stand for, and that its numbers are no others.
+#![tactic(auto)]
+
 ghost use Rattle.reorder_c.specs.Calls.{OpensAs, OffersAs, ServesAs, DrainsAs, PassesAs};
 
 use reorder_c_answers::{Answer, Count, DESCRIPTION_NUMBERS};
@@ -9,14 +11,14 @@ use reorder_session::Session;
 use reorder_turn::Description;
 
 // What a call answers, and the session then.
-#[derive(Drop)]
+#[derive(Clone, Copy)]
 pub struct Answered {
     pub answer: Answer,
     pub session: Session,
 }
 
 // What a drain answers, and the session then.
-#[derive(Drop)]
+#[derive(Clone, Copy)]
 pub struct Counted {
     pub answer: Count,
     pub session: Session,

@@ -1,5 +1,7 @@
 // The answers of a reorder buffer's calls in structs of numbers, and the descriptions of a drain's answers as 64 lent numbers, for callers in languages that
 // have no such enums and structs.
+#![tactic(auto)]
+
 ghost use Rattle.std.specs.Prelude.{◌≡◌};
 ghost use Rattle.reorder_admission.specs.Answer.{offer_said};
 ghost use Rattle.reorder_turn.specs.Answer.{serve_said};
@@ -16,7 +18,7 @@ use reorder_turn::{Description, ServeAnswer};
 
 // A refusal's number and zeros; or 0, a kind (0 Waiting, 1 a packet, 2 a missing position) and a position.
 #[repr(C)]
-#[derive(Drop)]
+#[derive(Clone, Copy)]
 pub struct Answer {
     pub refusal: u32,
     pub kind: u32,
@@ -25,7 +27,7 @@ pub struct Answer {
 
 // A refusal's number and 0; or 0 and how many answers there were.
 #[repr(C)]
-#[derive(Drop)]
+#[derive(Clone, Copy)]
 pub struct Count {
     pub refusal: u32,
     pub count: u32,

@@ -1,4 +1,6 @@
 // The calls of the reorder buffer with answers in numbers as steps of a history: so demand 3 holds of what they answer and leave.
+#![tactic(auto)]
+
 ghost use Rattle.reorder_session.specs.Session.{single};
 ghost use Rattle.reorder_offer.specs.Opening.{open_of};
 ghost use Rattle.reorder_histories.specs.History.{offer, serve, drain, offer_tells, serve_tells, drain_tells, pass_tells, IsStart, IsStep, IsPassStep};

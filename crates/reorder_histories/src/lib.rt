@@ -1,4 +1,6 @@
 // Whole lists of calls (document 01, "The lists of demand 3").
+#![tactic(auto)]
+
 ghost use Rattle.reorder_histories.specs.Histories.{HigherThresholdLosesNothing};
 ghost use Rattle.reorder_histories.specs.Drained.{DrainsMeetDemand3};
 ghost use Rattle.reorder_histories.specs.Made.{HistoriesLoseNothing};

@@ -1,4 +1,6 @@
 // The reorder buffer's theorems: what every call keeps, what a drain is, how held bytes come out, that freed room is used again, and that no refusal is 0.
+#![tactic(auto)]
+
 ghost use Rattle.reorder_laws.specs.Keeps.{CallsKeep};
 ghost use Rattle.reorder_laws.specs.Serves.{DrainsAreServes};
 ghost use Rattle.reorder_laws.specs.Held.{BytesComeOut};

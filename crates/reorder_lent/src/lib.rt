@@ -1,4 +1,6 @@
 // The reorder buffer's calls over one session record, lent to each call and updated there (document 01, "The rack").
+#![tactic(auto)]
+
 ghost use Rattle.reorder_admission.specs.Answer.{offer_said};
 ghost use Rattle.reorder_session.specs.Calls.{Offers, Serves, Passes};
 ghost use Rattle.reorder_offer.specs.Opening.{Opens};

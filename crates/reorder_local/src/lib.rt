@@ -1,4 +1,6 @@
 // The calls over a lent session, for callers that keep the session in a local: each lends its own copy and returns it.
+#![tactic(auto)]
+
 ghost use Rattle.reorder_admission.specs.Answer.{offer_said};
 ghost use Rattle.reorder_session.specs.Calls.{Offers, Serves, Passes};
 ghost use Rattle.reorder_offer.specs.Opening.{Opens};

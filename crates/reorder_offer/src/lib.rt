@@ -1,4 +1,6 @@
 // The opening of a reorder buffer, and the offer of a packet (document 01, "The rack").
+#![tactic(auto)]
+
 ghost use Rattle.std.specs.Prelude.{◌≡◌, length};
 ghost use Rattle.octets.specs.Bytes.{put};
 ghost use Rattle.packet_layout.specs.Layout.{packet_size};
@@ -14,7 +16,7 @@ use reorder_session::Session;
 use window::POSITIONS;
 
 // What an opening or an offer answers, and the session then.
-#[derive(Drop)]
+#[derive(Clone, Copy)]
 pub struct Offered {
     pub answer: OfferAnswer,
     pub session: Session,

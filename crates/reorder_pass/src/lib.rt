@@ -1,18 +1,20 @@
 // Passing a position of the reorder buffer over, by hand (document 01, "The rack").
+#![tactic(auto)]
+
 ghost use Rattle.reorder_session.specs.Calls.{Passes};
 ghost use Rattle.reorder_pass.specs.Answer.{pass_said};
 
 use reorder_session::Session;
 
 // A refusal with its number, or the position passed.
-#[derive(Drop)]
+#[derive(Clone, Copy)]
 pub enum PassAnswer {
     Refused(u8),
     Missing(u32),
 }
 
 // What a pass answers, and the session then.
-#[derive(Drop)]
+#[derive(Clone, Copy)]
 pub struct Passed {
     pub answer: PassAnswer,
     pub session: Session,

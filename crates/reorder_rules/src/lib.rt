@@ -1,5 +1,6 @@
 // Document 01's rules of the reorder buffer ("The rack"), for any kind of session, and their laws. No code but numbers: each kind of session has
 // its calls in crates of its own.
+#![tactic(auto)]
 
 // The greatest budget of a drain, and so the most answers that it gives.
 pub const MOST_ANSWERS: usize = window::POSITIONS as usize;

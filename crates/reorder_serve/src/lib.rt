@@ -1,4 +1,6 @@
 // Serving the reorder buffer in order: serve and drain (document 01, "The rack").
+#![tactic(auto)]
+
 ghost use Rattle.std.specs.Prelude.{◌≡◌, ◌≤◌, ◌<◌, length};
 ghost use Rattle.octets.specs.Refusal.{answered};
 ghost use Rattle.reorder_rules.specs.Sizes.{positions, store_size, end_position};
@@ -14,28 +16,28 @@ use reorder_turn::{Description, ServeAnswer};
 use window::POSITIONS;
 
 // What a serve answers, and the session then.
-#[derive(Drop)]
+#[derive(Clone, Copy)]
 pub struct Served {
     pub answer: ServeAnswer,
     pub session: Session,
 }
 
 // A refusal with its number, or how many answers there were.
-#[derive(Drop)]
+#[derive(Clone, Copy)]
 pub enum DrainAnswer {
     Refused(u8),
     Count(u32),
 }
 
 // What a drain answers: the answers in order, all zeros past their count and on a refusal.
-#[derive(Drop)]
+#[derive(Clone, Copy)]
 pub struct Report {
     pub answer: DrainAnswer,
     pub descriptions: [Description; MOST_ANSWERS],
 }
 
 // The report of a drain, and the session then.
-#[derive(Drop)]
+#[derive(Clone, Copy)]
 pub struct Drained {
     pub answer: Report,
     pub session: Session,

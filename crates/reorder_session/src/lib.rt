@@ -1,4 +1,6 @@
 // The session of a reorder buffer (document 01, "The rack").
+#![tactic(auto)]
+
 ghost use Rattle.std.specs.Prelude.{◌≡◌};
 ghost use Rattle.reorder_session.specs.Session.{past_end, broken, with_window};
 
@@ -15,7 +17,7 @@ const LAST_SUM_WORD: u32 = packet_layout::LAST_SUM_WORD as u32;
 // What a reorder buffer of one consumer keeps between calls; the held bytes live in a store that the caller lends. All its numbers have 32 bits, so
 // that no byte of it is padding. The window starts at next.
 #[repr(C)]
-#[derive(Drop)]
+#[derive(Clone, Copy)]
 pub struct Session {
     pub anchor: Anchor,
     pub sum_word: u32,

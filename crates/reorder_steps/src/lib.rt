@@ -1,4 +1,6 @@
 // The calls of the reorder buffer by value as steps of a history: so demand 3 holds of what they answer and leave.
+#![tactic(auto)]
+
 ghost use Rattle.reorder_admission.specs.Answer.{offer_said};
 ghost use Rattle.reorder_session.specs.Session.{single};
 ghost use Rattle.reorder_session.specs.Calls.{Offers, Serves, Passes};

@@ -1,4 +1,6 @@
 // What serving the reorder buffer answers: the answers, their descriptions, and the refusals of serve and drain (document 01, "The rack").
+#![tactic(auto)]
+
 ghost use Rattle.std.specs.Prelude.{◌≡◌};
 ghost use Rattle.reorder_rules.specs.Turn.{is_waiting};
 ghost use Rattle.reorder_session.specs.Calls.{turn, serve_refusal, drain_refusal};
@@ -8,7 +10,7 @@ ghost use Rattle.reorder_turn.specs.Described.{description_of};
 use reorder_session::Session;
 
 // A refusal with its number; the packet at a position; that a position is missing; or that nothing is to be served yet.
-#[derive(Drop)]
+#[derive(Clone, Copy)]
 pub enum ServeAnswer {
     Refused(u8),
     Packet(u32),
@@ -17,7 +19,7 @@ pub enum ServeAnswer {
 }
 
 // One answer of a drain: kind 0 none, 1 a packet, 2 a missing position.
-#[derive(Drop)]
+#[derive(Clone, Copy)]
 pub struct Description {
     pub kind: u32,
     pub position: u32,

@@ -134,7 +134,7 @@ pub(crate) fn number(row: u64) -> u32 {
 }
 
 // What a row does: a call, the four calls of EACH, or a change of what the next calls are given.
-#[derive(Drop)]
+#[derive(Clone, Copy)]
 pub enum Call {
     Open,
     OpenOr,

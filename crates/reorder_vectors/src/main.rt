@@ -1,6 +1,8 @@
 // Vectors of the reorder buffer: histories of calls, on both sides of every boundary that decides about them. The table files have the rows,
 // cases.rt says what a row means, and each call prints one line. What they have to print, in the file stdout, was worked out apart from this
 // program and the library.
+#![tactic(auto)]
+
 mod arrivals;
 mod build;
 mod calls;

@@ -4,7 +4,7 @@ use position::Anchor;
 use reorder_session::Session;
 use window::Window;
 
-#[derive(Drop)]
+#[derive(Clone, Copy)]
 pub struct Registers {
     pub session: Session,
     pub base_count: u32,

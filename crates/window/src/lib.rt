@@ -1,5 +1,7 @@
 // The window of 32 positions from its start on, with a mark for each position held (document 01, "The rack"). With one consumer it starts at
 // the consumer's next.
+#![tactic(auto)]
+
 ghost use Rattle.std.specs.Prelude.{◌≡◌, ◌+◌, ◌%◌, ◌^◌};
 ghost use Rattle.numbers.specs.Bit.{clear_bit};
 ghost use Rattle.window.specs.Window.{held_at, some_held, holding, freed, skipped, first_window, no_window, in32_bits, Rotated};
@@ -11,7 +13,7 @@ pub const MOST_AHEAD: u32 = POSITIONS - 1;
 
 // The first position of the window, and the marks: bit p mod 32 for position p.
 #[repr(C)]
-#[derive(Drop)]
+#[derive(Clone, Copy)]
 pub struct Window {
     pub start: u32,
     pub marks: u32,
