@@ -1,0 +1,16 @@
+-- The law of loops that fill a list, at numbers of four bytes each.
+use Prim.Native.Nat.{ℕ, ◌+◌, ◌-◌, ◌*◌, ◌≤◌}
+use mathlib.Core.Path.{◌≡◌, refl}
+use native.Mathlib.Omega.{arith}
+use lib.ListN.{length, set, length-set}
+use Rattle.octets.specs.Table.{nats_at}
+use Rattle.octets.proofs.Fill.{Filled, fill_more, fill_done}
+use Rattle.octets_runs.proofs.Numbers.{number_of}
+use borrow.Author.Rules.{rules}
+use Rattle.octets_runs.proofs.read_u32s_within.Given as goal
+
+abbrev pub invariant-loop-k : goal.invariant-loop-k
+invariant-loop-k l = (l.i + 4 * length l.initial.out ≤ length l.bytes) × (length l.out ≡ length l.initial.out) × Filled (number_of l.bytes l.i 4) l.initial.out l.out l.k
+
+abbrev pub decreases-loop-k : goal.decreases-loop-k
+decreases-loop-k l = length l.initial.out - l.k

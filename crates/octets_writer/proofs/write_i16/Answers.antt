@@ -1,0 +1,16 @@
+-- The bits, stored.
+use Prim.Native.Nat.{ℕ}
+use mathlib.Core.Path.{ap, ◌∙◌}
+use mir.Syntax.{w16}
+use mir.ValLaws.{to_z-of_z}
+use Rattle.octets.specs.Bytes.{octets_of, complemented, put}
+use borrow.Author.Rules.{rules}
+use Rattle.octets_writer.proofs.write_i16.Goals as goal
+
+pub returns : goal.returns
+returns c =
+    let b = c.before.before.before.before.before in
+    let s = b.before.before in
+    let a = s.args in
+    let bits = b.i16_bits.ensures ∙ ap (complemented 16) (to_z-of_z w16 a.x s.ranges.x) in
+    c.write_u16.ensures ∙ ap (λ (n : ℕ). put a.out.now a.i (octets_of 2 n)) bits

@@ -1,0 +1,11 @@
+-- The bytes, stored.
+use mathlib.Core.Path.{ap, ◌∙◌}
+use Rattle.octets.specs.Bytes.{put}
+use borrow.Author.Rules.{rules}
+use Rattle.octets_writer.proofs.write_u64.Goals as goal
+
+pub returns : goal.returns
+returns c =
+    let b = c.before.before.before.before.before.before in
+    let a = b.args in
+    c.write_into.ensures ∙ ap (put a.out.now a.i) b.u64_bytes-bytes.ensures

@@ -1,0 +1,29 @@
+-- The arrays, by what was said.
+use Prim.Native.Nat.{ℕ}
+use mathlib.Core.Path.{◌≡◌, sym, ap, ◌∙◌}
+use mathlib.Core.List.{List}
+use Rattle.octets.specs.Refusal.{refused, answered}
+use Rattle.octets.proofs.Ladder.{answer_said, refusal_said, after_refused, after_done}
+use Rattle.packet_check.specs.Refusal.{read_refusal}
+use Rattle.packet.specs.Fields.{fields_of, arrays_of, no_arrays}
+use Rattle.packet.specs.Read.{packet_said, read_due, read_arrays}
+use Rattle.packet.specs.declared.PacketFields.{PacketFields}
+use Rattle.packet.specs.declared.PacketArrays.{PacketArrays}
+use borrow.Author.Rules.{rules}
+use Rattle.packet.proofs.read_packet.Goals as goal
+
+none : (s : List ℕ) (word n : ℕ) → refused n ≡ read_due s word → no_arrays ≡ read_arrays s word
+none s word n e = let r = refusal_said n (read_refusal s word) (fields_of s) e in after_refused n _ (arrays_of s) no_arrays r.0 (λ z. r.1 (sym r.0 ∙ z))
+
+all : (s : List ℕ) (word : ℕ) (f : PacketFields) (a : PacketArrays) → answered f ≡ read_due s word → a ≡ arrays_of s → a ≡ read_arrays s word
+all s word f a e q = let r = answer_said (read_refusal s word) (fields_of s) f e in after_done _ (arrays_of s) no_arrays a r.0 q
+
+pub returns-in_default : goal.returns-in_default
+returns-in_default c =
+    let e = c.read_answer-answer.ensures in
+    (e, none _ _ _ (ap packet_said (sym c.enum_told-in_default-1.given.1) ∙ e))
+
+pub returns : goal.returns
+returns c =
+    let e = c.read_answer-answer.ensures in
+    (e, all _ _ _ _ (ap packet_said (sym c.enum_told-1.given.1) ∙ e) c.read_arrays.ensures)

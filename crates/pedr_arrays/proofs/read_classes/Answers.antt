@@ -1,0 +1,50 @@
+-- One law of loops that fill a list, at the class of each shot.
+use Prim.Native.Nat.{ℕ, ◌-◌}
+use mathlib.Core.Path.{refl, ap, ◌∙◌}
+use mathlib.Core.List.{List}
+use native.Mathlib.Omega.{arith}
+use Rattle.layout.specs.Column.{item}
+use Rattle.pedr_layout.specs.Layout.{class}
+use Rattle.pedr_flags.specs.Class.{class_of}
+use Rattle.pedr_arrays.specs.Arrays.{shot_class, classes_of}
+use Rattle.pedr_arrays.specs.declared.ShotClass.{ShotClass}
+use Rattle.octets.proofs.Fill.{Filled, fill_more, fill_done}
+use borrow.Author.Rules.{rules}
+use Rattle.pedr_arrays.proofs.read_classes.Goals as goal
+
+abbrev class_at : List ℕ → ℕ → ShotClass
+class_at s k = shot_class (item s class k)
+
+pub loop-k-init : goal.loop-k-init
+loop-k-init c = (omega arith, refl)
+
+pub overflow_mul-k : goal.overflow_mul-k
+overflow_mul-k c = omega arith
+
+pub overflow_add-k : goal.overflow_add-k
+overflow_add-k c = omega arith
+
+pub offset_bounds-classes-k : goal.offset_bounds-classes-k
+offset_bounds-classes-k c = omega arith
+
+pub bounds-classes-k : goal.bounds-classes-k
+bounds-classes-k c = omega arith
+
+pub overflow_add-k-in-loop-k : goal.overflow_add-k-in-loop-k
+overflow_add-k-in-loop-k c = omega arith
+
+pub loop-k-smaller : goal.loop-k-smaller
+loop-k-smaller c = omega arith
+
+pub loop-k-preserved : goal.loop-k-preserved
+loop-k-preserved c =
+    let l = c.loop-k in
+    let s = c.args.bytes.now in
+    fill_more (class_at s) _ l.classes l.k _ c.loop-k-test.true (λ i. record { class = (c.class_of-class.ensures ∙ ap class_of c.u16_at.ensures) i }) l.invariant
+
+pub returns : goal.returns
+unfolding classes_of
+returns c =
+    let l = c.loop-k in
+    let s = c.args.bytes.now in
+    fill_done (class_at s) _ l.classes l.k c.loop-k-test.false l.invariant

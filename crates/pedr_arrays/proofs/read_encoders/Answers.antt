@@ -1,0 +1,49 @@
+-- One law of loops that fill a list, at the encoder bits of each shot.
+use Prim.Native.Nat.{ℕ, ◌+◌, ◌-◌}
+use mathlib.Core.Path.{refl, sym, ap, ◌∙◌}
+use mathlib.Core.List.{List}
+use native.Mathlib.Omega.{arith}
+use native.Mathlib.Nat.{one-mul}
+use lib.ListN.{get_or}
+use Rattle.layout.specs.Column.{item}
+use Rattle.pedr_layout.specs.Layout.{encoder}
+use Rattle.pedr_flags.specs.Encoder.{encoder_of}
+use Rattle.pedr_flags.specs.declared.Encoder.{Encoder}
+use Rattle.pedr_arrays.specs.Arrays.{encoders_of}
+use Rattle.octets.proofs.Fill.{Filled, fill_more, fill_done}
+use borrow.Author.Rules.{rules}
+use Rattle.pedr_arrays.proofs.read_encoders.Goals as goal
+
+abbrev encoder_at : List ℕ → ℕ → Encoder
+encoder_at s k = encoder_of (item s encoder k)
+
+pub loop-k-init : goal.loop-k-init
+loop-k-init c = (omega arith, refl)
+
+pub overflow_add-k : goal.overflow_add-k
+overflow_add-k c = omega arith
+
+pub offset_bounds-encoders-k : goal.offset_bounds-encoders-k
+offset_bounds-encoders-k c = omega arith
+
+pub bounds-encoders-k : goal.bounds-encoders-k
+bounds-encoders-k c = omega arith
+
+pub overflow_add-k-in-loop-k : goal.overflow_add-k-in-loop-k
+overflow_add-k-in-loop-k c = omega arith
+
+pub loop-k-smaller : goal.loop-k-smaller
+loop-k-smaller c = omega arith
+
+pub loop-k-preserved : goal.loop-k-preserved
+loop-k-preserved c =
+    let l = c.loop-k in
+    let s = c.args.bytes.now in
+    fill_more (encoder_at s) _ l.encoders l.k _ c.loop-k-test.true (c.encoder_of.ensures ∙ ap (λ (b : ℕ). encoder_of b) (c.u8_at.ensures ∙ ap (λ (j : ℕ). get_or s (620 + j) 0) (sym (one-mul l.k)))) l.invariant
+
+pub returns : goal.returns
+unfolding encoders_of
+returns c =
+    let l = c.loop-k in
+    let s = c.args.bytes.now in
+    fill_done (encoder_at s) _ l.encoders l.k c.loop-k-test.false l.invariant

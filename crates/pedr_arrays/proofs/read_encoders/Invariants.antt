@@ -1,0 +1,21 @@
+-- One law of loops that fill a list, at the encoder bits of each shot.
+use Prim.Native.Nat.{ℕ, ◌+◌, ◌-◌}
+use mathlib.Core.Path.{refl, sym, ap, ◌∙◌}
+use mathlib.Core.List.{List}
+use native.Mathlib.Omega.{arith}
+use native.Mathlib.Nat.{one-mul}
+use lib.ListN.{get_or}
+use Rattle.layout.specs.Column.{item}
+use Rattle.pedr_layout.specs.Layout.{encoder}
+use Rattle.pedr_flags.specs.Encoder.{encoder_of}
+use Rattle.pedr_flags.specs.declared.Encoder.{Encoder}
+use Rattle.pedr_arrays.specs.Arrays.{encoders_of}
+use Rattle.octets.proofs.Fill.{Filled, fill_more, fill_done}
+use borrow.Author.Rules.{rules}
+use Rattle.pedr_arrays.proofs.read_encoders.Given as goal
+
+abbrev pub invariant-loop-k : goal.invariant-loop-k
+invariant-loop-k l = Filled (encoder_at l.bytes) l.initial.encoders l.encoders l.k
+
+abbrev pub decreases-loop-k : goal.decreases-loop-k
+decreases-loop-k l = 20 - l.k

@@ -1,0 +1,30 @@
+-- Column by column.
+use Prim.Native.Nat.{ℕ}
+use mathlib.Core.Path.{◌≡◌}
+use native.Mathlib.Omega.{arith}
+use lib.ListN.{length, get_or}
+use mir.Syntax.{w16}
+use mir.Val.{Fits}
+use Rattle.layout.proofs.Row.{◌▶◌}
+use borrow.Author.Rules.{rules}
+use Rattle.pedr_block_round_trip.proofs.Typed.{one, items}
+use Rattle.pedr_block_round_trip.proofs.type_frame_6.Goals as goal
+use Rattle.pedr_block_round_trip.proofs.type_frame_6.Tie as tie
+
+-- the array's length and numbers, by its type
+dump : (s : tie.Start) → (length s.args.dump ≡ 5) × ((k : ℕ) → Fits w16 (get_or s.args.dump k 0))
+dump s = (search rules, λ k. search rules)
+
+-- the array's length and numbers, by its type
+echo : (s : tie.Start) → (length s.args.echo ≡ 8) × ((k : ℕ) → Fits w16 (get_or s.args.echo k 0))
+echo s = (search rules, λ k. search rules)
+
+pub returns : goal.returns
+returns c =
+    let s = c.before in
+    let dump_is = dump s in
+    let echo_is = echo s in
+    items 5 s.args.dump (omega (arith, dump_is.0)) (λ k. (dump_is.1 k).fits)
+    ▶ items 8 s.args.echo (omega (arith, echo_is.0)) (λ k. (echo_is.1 k).fits)
+    ▶ (let of_type = s.well_formed.0.1.1.0 in one 2 s.args.fields.packet_validity_checksum (search rules))
+    ▶ tt

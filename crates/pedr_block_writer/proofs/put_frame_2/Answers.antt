@@ -1,0 +1,11 @@
+-- The words, stored.
+use mathlib.Core.Path.{ap, ◌∙◌}
+use Rattle.octets.specs.Bytes.{put}
+use Rattle.pedr_layout.specs.Block as columns
+use borrow.Author.Rules.{rules}
+use Rattle.pedr_block_writer.proofs.put_frame_2.Goals as goal
+
+pub returns : goal.returns
+returns c =
+    let w = c.before.before.before.before.before.before in
+    c.write_u16s.ensures ∙ ap (put w.args.out.now columns.block_start) w.frame_2_words-words.ensures

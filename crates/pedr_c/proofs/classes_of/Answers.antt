@@ -1,0 +1,55 @@
+-- One law of loops that fill a list, at the class of each number.
+use Prim.Native.Nat.{ℕ, ◌-◌}
+use mathlib.Core.Path.{◌≡◌, refl, sym, ap, ◌∙◌}
+use mathlib.Core.List.{List}
+use native.Mathlib.Omega.{arith}
+use lib.ListN.{length, get_or}
+use Rattle.octets.specs.Table.{table}
+use Rattle.octets.proofs.Fill.{Filled, fill_more, fill_done, table_map}
+use Rattle.pedr_arrays.specs.Arrays.{shot_class}
+use Rattle.pedr_arrays.specs.declared.ShotClass.{ShotClass}
+use borrow.Author.Rules.{rules}
+use Rattle.pedr_c.proofs.classes_of.Goals as goal
+use Rattle.pedr_c.proofs.classes_of.Tie as tie
+
+abbrev class_at : List ℕ → ℕ → ShotClass
+class_at numbers k = shot_class (get_or numbers k 0)
+
+-- the array's length, by its type
+shots : (s : tie.Start goal.the-invariant-loop-k goal.the-decreases-loop-k) → length s.args.t1 ≡ 20
+shots s = search rules
+
+pub loop-k-init : goal.loop-k-init
+loop-k-init c = (omega arith, refl)
+
+pub offset_bounds-numbers-k : goal.offset_bounds-numbers-k
+offset_bounds-numbers-k c = omega arith
+
+pub bounds-numbers-k : goal.bounds-numbers-k
+bounds-numbers-k c = omega arith
+
+pub offset_bounds-classes-k : goal.offset_bounds-classes-k
+offset_bounds-classes-k c = omega arith
+
+pub bounds-classes-k : goal.bounds-classes-k
+bounds-classes-k c = omega arith
+
+pub overflow_add-k : goal.overflow_add-k
+overflow_add-k c = omega arith
+
+pub loop-k-smaller : goal.loop-k-smaller
+loop-k-smaller c = omega arith
+
+pub loop-k-preserved : goal.loop-k-preserved
+loop-k-preserved c =
+    let l = c.loop-k in
+    fill_more (class_at c.args.t1) _ l.classes l.k _ c.loop-k-test.true
+    (λ i. record { class = c.class_of-class.ensures i }) l.invariant
+
+pub returns : goal.returns
+returns c =
+    let l = c.loop-k in
+    let numbers = c.args.t1 in
+    let f = class_at numbers in
+    fill_done f _ l.classes l.k c.loop-k-test.false l.invariant ∙ ap (λ (n : ℕ). table n f) (sym (shots c.before.before.before))
+    ∙ table_map shot_class numbers 0

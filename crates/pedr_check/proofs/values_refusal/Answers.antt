@@ -1,0 +1,67 @@
+-- Each return is one rung of the ladder.
+use Prim.Native.Nat.{ℕ, ◌<◌, ◌≤◌}
+use mathlib.Core.Path.{◌≡◌, sym, ap, ◌∙◌}
+use mathlib.Core.Bool.{Bool, true, false}
+use lib.Dec.{leb}
+use lib.IntN.{ℤ, nat_abs}
+use mir.Syntax.{w32}
+use mir.Val.{SFits, to_z, of_z}
+use mir.ValLaws.{to_z-of_z}
+use borrow.Author.Rules.{rules}
+use borrow.Author.Tests.{leb-true, leb-false, not-true, not-false}
+use Rattle.octets.proofs.Ladder.{rungs}
+use Rattle.pedr_check.specs.Refusal.{values_refusal}
+use Rattle.pedr_check.proofs.values_refusal.Goals as goal
+use Rattle.pedr_check.proofs.values_refusal.Tie as tie
+
+-- what the test of a number shows of it
+module _ (r : Bool) (x : ℤ) (n : ℕ) (fits : SFits w32 x) (tested : r ≡ leb (nat_abs (to_z w32 (of_z w32 x))) n) where
+  test : leb (nat_abs x) n ≡ r
+  test = ap (λ (z : ℤ). leb (nat_abs z) n) (sym (to_z-of_z w32 x fits)) ∙ sym tested
+
+  inside : r ≡ true → nat_abs x ≤ n
+  inside e = leb-true (nat_abs x) n (test ∙ e)
+
+  beyond : r ≡ false → n < nat_abs x
+  beyond e = leb-false (nat_abs x) n (test ∙ e)
+
+micros_inside : (c : tie.Else-not-is_within) → nat_abs c.args.micros ≤ 999999
+micros_inside c = inside _ _ 999999 c.ranges.micros c.is_within.ensures (not-false _ c.if-not-is_within.false)
+
+latitude_inside : (c : tie.Else-not-is_within-2) → nat_abs c.args.latitude ≤ 90000000
+latitude_inside c =
+    inside _ _ 90000000 c.ranges.latitude c.is_within-2.ensures (not-false _ c.if-not-is_within-2.false)
+
+pub returns-then-not-is_within : goal.returns-then-not-is_within
+unfolding values_refusal
+returns-then-not-is_within c =
+    let n = beyond _ _ 999999 c.ranges.micros c.is_within.ensures (not-true _ c.if-not-is_within.true) in
+    search rungs depth 10
+
+pub returns-then-not-is_within-2 : goal.returns-then-not-is_within-2
+unfolding values_refusal
+returns-then-not-is_within-2 c =
+    let m = micros_inside c.before.before.before in
+    let n = beyond _ _ 90000000 c.ranges.latitude c.is_within-2.ensures (not-true _ c.if-not-is_within-2.true) in
+    search rungs depth 10
+
+pub returns-then-frame_index-lt1 : goal.returns-then-frame_index-lt1
+unfolding values_refusal
+returns-then-frame_index-lt1 c =
+    let m = micros_inside c.before.before.before.before in
+    let l = latitude_inside c.before.before in
+    search rungs depth 10
+
+pub returns-then-frame_index-gt7 : goal.returns-then-frame_index-gt7
+unfolding values_refusal
+returns-then-frame_index-gt7 c =
+    let m = micros_inside c.before.before.before.before.before in
+    let l = latitude_inside c.before.before.before in
+    search rungs depth 10
+
+pub returns : goal.returns
+unfolding values_refusal
+returns c =
+    let m = micros_inside c.before.before.before.before.before in
+    let l = latitude_inside c.before.before.before in
+    search rungs depth 10

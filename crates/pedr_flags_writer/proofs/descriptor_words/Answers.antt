@@ -1,0 +1,43 @@
+-- The words' parts at their places.
+use Prim.Native.Nat.{ℕ, ◌+◌, ◌*◌, ◌%◌, ◌^◌}
+use mathlib.Core.Path.{◌≡◌, sym, ap₂, ◌∙◌}
+use native.Mathlib.Omega.{arith}
+use lib.ListN.{length}
+use Rattle.pedr_flags_writer.proofs.Descriptor.{high_word, two_words}
+use borrow.Author.Rules.{rules}
+use Rattle.pedr_flags_writer.proofs.descriptor_words.Goals as goal
+use Rattle.pedr_flags_writer.proofs.descriptor_words.Tie as tie
+
+-- the array's length, by its type
+shots : (s : tie.Start) → length s.args.failures ≡ 20
+shots s = search rules
+
+pub overflow_mul-result-2 : goal.overflow_mul-result-2
+overflow_mul-result-2 c = omega arith
+
+pub overflow_add-result-2 : goal.overflow_add-result-2
+overflow_add-result-2 c = omega arith
+
+pub overflow_mul-result-3 : goal.overflow_mul-result-3
+overflow_mul-result-3 c = omega arith
+
+pub overflow_add-result-3 : goal.overflow_add-result-3
+overflow_add-result-3 c = omega arith
+
+pub overflow_mul-result-4 : goal.overflow_mul-result-4
+overflow_mul-result-4 c = omega arith
+
+pub overflow_add-result-4 : goal.overflow_add-result-4
+overflow_add-result-4 c = omega arith
+
+pub overflow_add-result-5 : goal.overflow_add-result-5
+overflow_add-result-5 c = omega arith
+
+pub returns : goal.returns
+returns c =
+    let s = c.before.before.before.before.before.before.before.before.before in
+    let d = s.args.descriptor in
+    let fs = s.args.failures in
+    let high : c.shot_words-shots.result.high + d.carried % 2 ^ 24 * 2 ^ 40 ≡ high_word d fs (shots s) =
+    omega arith in
+    (ap₂ (λ (h l : ℕ). h * 2 ^ 64 + l) high (omega arith) ∙ sym (two_words d fs (shots s)), omega arith)

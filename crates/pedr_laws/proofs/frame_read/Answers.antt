@@ -1,0 +1,33 @@
+-- The case of an accepted record is its frame index.
+use Prim.Native.Nat.{ℕ}
+use mathlib.Core.Path.{sym, ap, ◌∙◌}
+use mathlib.Core.List.{List}
+use Rattle.octets.proofs.Ladder.{after_refused, after_done, answer_said, refusal_said}
+use Rattle.layout.specs.Column.{value}
+use Rattle.pedr_layout.specs.Layout.{frame_index}
+use Rattle.pedr_fields.specs.Fields.{fields_of}
+use Rattle.pedr_fields.specs.declared.RecordFields.{RecordFields}
+use Rattle.pedr_block.specs.Block.{block_of, frame_number}
+use Rattle.pedr_block.specs.declared.Block.{Block}
+use Rattle.pedr_block.proofs.Frame.{case_is_index}
+use Rattle.pedr_check.proofs.Accept.{accepted}
+use Rattle.pedr.specs.Read.{record_said}
+use borrow.Author.Rules.{rules}
+use Rattle.pedr_laws.proofs.frame_read.Goals as goal
+
+pub returns-in_default : goal.returns-in_default
+returns-in_default c =
+    let r = c.before.before.before in
+    let s : List ℕ = r.args.bytes.now in
+    let q = refusal_said {A = RecordFields × Block} _ _ (fields_of s, block_of s) (sym (ap record_said c.enum_told-1.given.1) ∙ r.read_record-read.ensures.0) in
+    after_refused _ _ (value s frame_index) 0 q.0 (λ z. q.1 (sym q.0 ∙ z))
+
+pub returns : goal.returns
+returns c =
+    let k = c.before.before.before in
+    let r = k.before.before in
+    let s : List ℕ = r.args.bytes.now in
+    let q = answer_said {A = RecordFields × Block} _ (fields_of s, block_of s) _ (sym (ap record_said k.answer-1.given.1) ∙ r.read_record-read.ensures.0) in
+    let i = (accepted s q.0).index in
+    after_done _ (value s frame_index) 0 _ q.0
+    (c.frame_number.ensures ∙ ap (λ (x : RecordFields × Block). frame_number x.1) q.1 ∙ case_is_index s i.0 i.1)

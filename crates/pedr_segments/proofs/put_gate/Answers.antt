@@ -1,0 +1,26 @@
+-- Four stores, one for each column.
+use mathlib.Core.Path.{◌≡◌, refl, sym, ap, ◌∙◌}
+use lib.ListN.{length}
+use Rattle.pedr_arrays.specs.declared.ChannelArrays.{ChannelArrays}
+use Rattle.pedr_segments.specs.Parts.{gate_parts}
+use Rattle.pedr_segments.proofs.Fits.{gate_columns, gate_fits}
+use Rattle.layout.proofs.Store.{Puts, stop, ◌▸◌, puts_join}
+use borrow.Author.Rules.{rules}
+use Rattle.pedr_segments.proofs.put_gate.Goals as goal
+use Rattle.pedr_segments.proofs.put_gate.Tie as tie
+
+-- the arrays' lengths, by their types
+lengths : (s : tie.Start) → (length s.args.t2 ≡ 8) × (length s.args.t3 ≡ 8)
+lengths s = (search rules, search rules)
+
+pub returns : goal.returns
+returns c =
+    let s = c.before.before.before.before.before.before.before.before.before.before.before.before.before.before.before.before.before.before.before.before.before in
+    let l = lengths s in
+    let a : ChannelArrays = record { noise = s.args.t2; thresholds = s.args.t3 } in
+    puts_join (gate_parts s.args.fields a) gate_columns 424 480 refl (gate_fits s.args.fields a l.0 l.1)
+    (c.write_u32s.ensures
+    ▸ c.write_u32.ensures
+    ▸ c.write_u32-2.ensures
+    ▸ c.write_u16s.ensures
+    ▸ stop)

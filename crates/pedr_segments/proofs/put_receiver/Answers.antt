@@ -1,0 +1,20 @@
+-- Six stores, one for each column.
+use mathlib.Core.Path.{◌≡◌, refl, sym, ap, ◌∙◌}
+use lib.ListN.{length}
+use Rattle.pedr_segments.specs.Parts.{receiver_parts}
+use Rattle.pedr_segments.proofs.Fits.{receiver_columns, receiver_fits}
+use Rattle.layout.proofs.Store.{Puts, stop, ◌▸◌, puts_join}
+use borrow.Author.Rules.{rules}
+use Rattle.pedr_segments.proofs.put_receiver.Goals as goal
+
+pub returns : goal.returns
+returns c =
+    let s = c.before.before.before.before.before.before.before.before.before.before.before.before.before.before.before.before.before.before.before.before.before.before.before.before.before.before.before in
+    puts_join (receiver_parts s.args.fields) receiver_columns 480 492 refl (receiver_fits s.args.fields)
+    (c.write_u16.ensures
+    ▸ c.write_u16-2.ensures
+    ▸ c.write_u16-3.ensures
+    ▸ c.write_u16-4.ensures
+    ▸ c.write_u16-5.ensures
+    ▸ c.write_u16-6.ensures
+    ▸ stop)

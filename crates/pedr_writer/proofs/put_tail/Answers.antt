@@ -1,0 +1,25 @@
+-- Three stores, one for each column.
+use mathlib.Core.Path.{◌≡◌, refl, sym}
+use lib.ListN.{length}
+use native.Mathlib.Omega.{arith}
+use Rattle.pedr_writer.specs.Record.{tail_parts}
+use Rattle.pedr_writer.proofs.Fits.{tail_columns, tail_fits}
+use Rattle.pedr_segments.proofs.Stores.{front_copied, rest_copied, run_stored}
+use Rattle.layout.proofs.Store.{stop, ◌▸◌, puts_join}
+use borrow.Author.Rules.{rules}
+use Rattle.pedr_writer.proofs.put_tail.Goals as goal
+use Rattle.pedr_writer.proofs.put_tail.Tie as tie
+
+-- the array's length, by its type
+shots : (s : tie.Start) → length s.args.encoders ≡ 20
+shots s = search rules
+
+pub returns : goal.returns
+returns c =
+    let s = c.before.before.before.before.before.before.before.before.before.before.before.before.before.before.before.before.before in
+    let x = s.args.uninterpreted.now in
+    puts_join (tail_parts s.args.encoders x) tail_columns 536 776 refl (tail_fits s.args.encoders x (shots s) s.requires)
+    (front_copied x _ _ 536 84 (omega (arith, s.requires)) c.copy_part.ensures
+    ▸ run_stored 1 _ _ _ _ _ c.encoder_bytes-bytes.ensures c.write_u8s.ensures
+    ▸ rest_copied x _ _ 640 84 136 (sym s.requires) c.copy_part-2.ensures
+    ▸ stop)

@@ -1,0 +1,13 @@
+-- The numbers of each case.
+use mathlib.Core.Path.{sym, ap}
+use Rattle.reorder_serve.specs.declared.DrainAnswer.{DrainAnswer}
+use Rattle.reorder_serve.specs.Report.{drain_said}
+use Rattle.reorder_c_answers.specs.Answers.{drained_count}
+use borrow.Author.Rules.{rules}
+use Rattle.reorder_c_answers.proofs.drained_count.Goals as goal
+
+pub returns-in-Refused : goal.returns-in-Refused
+returns-in-Refused c = ap (λ (a : DrainAnswer). drained_count (drain_said a)) (sym c.answer-1.given.1)
+
+pub returns-in-Count : goal.returns-in-Count
+returns-in-Count c = ap (λ (a : DrainAnswer). drained_count (drain_said a)) (sym c.answer-in-Count-1.given.1)

@@ -1,0 +1,13 @@
+-- The numbers of each case.
+use mathlib.Core.Path.{sym, ap}
+use Rattle.reorder_pass.specs.declared.PassAnswer.{PassAnswer}
+use Rattle.reorder_pass.specs.Answer.{pass_said}
+use Rattle.reorder_c_answers.specs.Answers.{passed_answer}
+use borrow.Author.Rules.{rules}
+use Rattle.reorder_c_answers.proofs.passed_answer.Goals as goal
+
+pub returns-in-Refused : goal.returns-in-Refused
+returns-in-Refused c = ap (λ (a : PassAnswer). passed_answer (pass_said a)) (sym c.answer-1.given.1)
+
+pub returns-in-Missing : goal.returns-in-Missing
+returns-in-Missing c = ap (λ (a : PassAnswer). passed_answer (pass_said a)) (sym c.answer-in-Missing-1.given.1)

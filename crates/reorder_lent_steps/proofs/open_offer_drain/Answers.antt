@@ -1,0 +1,11 @@
+-- The promises of the three calls, one after another.
+use Rattle.reorder_steps.proofs.Steps.{from_none, short}
+use borrow.Author.Rules.{rules}
+use Rattle.reorder_lent_steps.proofs.open_offer_drain.Goals as goal
+
+pub returns : goal.returns
+returns c =
+    let d = c.drain.ensures in
+    let f = c.offer-offered.ensures in
+    let o = c.before.before.before.before.before.before.before.before.before.before.before.before in
+    (short _ _ _ _ _ _ (from_none _ _ _ _ o.no_session.ensures o.«open».ensures) f d.0, d.1)

@@ -1,0 +1,67 @@
+-- The ladder of refusals, the reader's answer, and what an accepted packet opens.
+use Prim.Native.Nat.{ℕ}
+use mathlib.Core.Path.{◌≡◌, refl, sym, ap, ◌∙◌}
+use native.Mathlib.Omega.{arith}
+use lib.ListN.{length}
+use Rattle.octets.specs.Refusal.{refusal_in}
+use Rattle.octets.proofs.Ladder.{rungs, say_refused, say_answered, answer_said}
+use Rattle.packet_check.specs.Refusal.{read_refusal}
+use Rattle.packet_check.proofs.Accept.{accepted}
+use Rattle.packet.specs.declared.PacketAnswer.{PacketAnswer}
+use Rattle.packet.specs.Fields.{fields_of}
+use Rattle.packet.specs.Read.{packet_said}
+use Rattle.reorder_offer.specs.Opening.{opened, open_refusal, open_due, open_of}
+use Rattle.reorder_rules.proofs.Said.{stays, leaves}
+use Rattle.reorder_session.specs.Session.{with_window}
+use Rattle.reorder_admission.proofs.Handed.{handed_on}
+use borrow.Author.Rules.{rules}
+use Rattle.reorder_offer.proofs.open_or.Goals as goal
+use Rattle.reorder_offer.proofs.open_or.Tie as tie
+
+-- threshold and store are in order: the ladder goes on with the reader's number
+ready : (c : tie.Else-store-ne-STORE_SIZE) (r : ℕ) → let k = c.args in
+    r ≡ read_refusal k.packet.now k.sum_word → r ≡ open_refusal (length k.store.now) k.packet.now k.threshold k.sum_word
+unfolding open_refusal
+ready c r e = search rungs depth 10
+
+pub returns-then-threshold-lt-LEAST_THRESHOLD : goal.returns-then-threshold-lt-LEAST_THRESHOLD
+unfolding open_refusal open_due open_of
+returns-then-threshold-lt-LEAST_THRESHOLD c =
+    stays _ _ _ _ _ _ (say_refused {A = ℕ} _ _ 0 (search rungs depth 10) (λ q. omega arith))
+
+pub returns-then-threshold-gt-MOST_THRESHOLD : goal.returns-then-threshold-gt-MOST_THRESHOLD
+unfolding open_refusal open_due open_of
+returns-then-threshold-gt-MOST_THRESHOLD c =
+    stays _ _ _ _ _ _ (say_refused {A = ℕ} _ _ 0 (search rungs depth 10) (λ q. omega arith))
+
+pub returns-then-store-ne-STORE_SIZE : goal.returns-then-store-ne-STORE_SIZE
+unfolding open_refusal open_due open_of
+returns-then-store-ne-STORE_SIZE c =
+    stays _ _ _ _ _ _ (say_refused {A = ℕ} _ _ 0 (search rungs depth 10) (λ q. omega arith))
+
+pub returns-in_default : goal.returns-in_default
+unfolding open_refusal open_due open_of
+returns-in_default c =
+    let t = c.enum_told-1.given.1 in
+    let a = c.before.before.before.before in
+    let h = handed_on _ _ _ _ (ap packet_said (sym t) ∙ a.read_answer-answer.ensures) (c.refusal_number.ensures ∙ ap (λ (x : PacketAnswer). refusal_in (packet_said x)) t) in
+    stays _ _ _ _ _ _ (say_refused {A = ℕ} _ _ 0 (ready a.before _ h.0) h.1)
+
+pub put_packet-requires : goal.put_packet-requires
+put_packet-requires c =
+    let t = c.answer-1.given.1 in
+    let a = c.before.before.before.before.before in
+    let k = a.args in
+    let r = answer_said (read_refusal k.packet.now k.sum_word) (fields_of k.packet.now) _ (ap packet_said (sym t) ∙ a.read_answer-answer.ensures) in
+    (accepted k.packet.now k.sum_word r.0).size
+
+pub returns : goal.returns
+unfolding open_refusal open_due open_of
+returns c =
+    let w = c.before.before.before.before.before in
+    let t = w.answer-1.given.1 in
+    let a = w.before.before.before.before.before in
+    let k = a.args in
+    let r = answer_said (read_refusal k.packet.now k.sum_word) (fields_of k.packet.now) _ (ap packet_said (sym t) ∙ a.read_answer-answer.ensures) in
+    leaves _ _ _ _ 0 _ _ _ (say_answered {A = ℕ} _ 0 0 (sym (ready a.before 0 (sym r.0))) refl)
+    (λ i. with_window (opened (r.1 i) k.threshold k.sum_word) (c.first.ensures i)) w.put_packet.ensures

@@ -1,0 +1,54 @@
+-- A refusal leaves everything; else it is the run, whose count is how far next has moved.
+use mathlib.Core.Path.{◌≡◌, refl, sym, ap, ◌∙◌}
+use mathlib.Core.List.{List}
+use native.Mathlib.Omega.{arith}
+use lib.ListN.{length}
+use Rattle.octets.specs.Refusal.{Said, refused, answered}
+use Rattle.octets.proofs.Ladder.{say_refused, say_answered}
+use Rattle.reorder_rules.specs.Turn.{Turn}
+use Rattle.reorder_rules.specs.Serve.{drain_of}
+use Rattle.reorder_rules.proofs.Said.{stays, leaves}
+use Rattle.reorder_rules.proofs.Turns.{counted_next}
+use Rattle.reorder_rules.proofs.Ready.{drain_ready}
+use Rattle.reorder_session.specs.declared.Session.{Session}
+use Rattle.reorder_session.specs.Session.{single}
+use Rattle.reorder_session.specs.Calls.{turns, drain_refusal, Drains}
+use Rattle.reorder_session.proofs.Whole.{whole_fit}
+use Rattle.reorder_serve.proofs.Reading.{reported}
+use borrow.Author.Rules.{rules}
+use Rattle.reorder_serve.proofs.drain.Goals as goal
+use Rattle.reorder_serve.proofs.drain.Tie as tie
+
+passes : (c : tie.Else-n-ne0) → let a = c.args in
+    drain_refusal a.session (length a.store.now) (length a.out.now) a.budget ≡ 0
+passes c = sym c.drain_refusal-n.ensures ∙ c.if-n-ne0.false
+
+pub returns-then-n-ne0 : goal.returns-then-n-ne0
+unfolding drain_of
+returns-then-n-ne0 c =
+    let a = c.args in
+    let k = stays _ _ _ _ _ _ (say_refused _ _ (turns a.budget a.session) c.drain_refusal-n.ensures c.if-n-ne0.true) in
+    reported (λ (x : Said (List Turn)). Drains a.session a.out.now a.store.now a.budget x a.session a.out.now) _
+    (refused c.drain_refusal-n.result) (record { comes = k; count = omega arith }) (record { count = refl; described = refl })
+
+pub run-requires : goal.run-requires
+run-requires c =
+    let r = drain_ready single _ _ _ _ (passes c.before.before) in
+    ((whole_fit _ r.fit).next_most, (r.store, r.most))
+
+pub returns : goal.returns
+unfolding drain_of
+returns c =
+    let g = c.run in
+    let r = g.ensures in
+    let p = c.before.before.before.before.before in
+    let a = p.args in
+    let ts = turns a.budget a.session in
+    let k = leaves _ _ _ _ ts _ _ _ (say_answered _ ts _ (passes p) refl) r.1.1.0 r.1.1.1 in
+    reported (λ (x : Said (List Turn)). Drains a.session a.out.now a.store.now a.budget x g.result.session g.new.1.0) _
+    (answered ts)
+    (record {
+      comes = k;
+      count = ap (λ (x : Session). x.window.start) r.1.1.0 ∙ counted_next single (λ x. refl) (λ x. refl) a.budget a.session;
+    })
+    (record { count = r.0; described = r.1.0 })

@@ -1,0 +1,60 @@
+-- The turn by the two tests, and what it leaves.
+use Prim.Native.Nat.{ℕ, ◌+◌, ◌-◌, ◌*◌}
+use mathlib.Core.Path.{◌≡◌, refl, sym, ap, ◌∙◌}
+use mathlib.Core.Bool.{false}
+use mathlib.Core.List.{List}
+use native.Mathlib.Omega.{arith}
+use lib.ListN.{take, drop}
+use Rattle.octets.specs.Bytes.{part, put}
+use Rattle.octets.specs.Refusal.{answered}
+use Rattle.window.specs.Window.{held_at, freed, skipped}
+use Rattle.window.proofs.Held.{has_32_bits}
+use Rattle.reorder_rules.specs.Turn.{Turn}
+use Rattle.reorder_rules.proofs.Turns.{turn_packet, turn_missing, turn_waiting}
+use Rattle.reorder_session.specs.declared.Session.{Session}
+use Rattle.reorder_session.specs.Session.{with_window, slot_start, single}
+use Rattle.reorder_session.specs.Calls.{turn, turned, shown}
+use borrow.Author.Rules.{rules}
+use Rattle.reorder_serve.proofs.step.Goals as goal
+use Rattle.reorder_serve.proofs.step.Tie as tie
+
+-- what serving once comes to, by its turn
+did : (s : Session) (i : ℕ) (store out : List ℕ) (t : Turn) (s' : Session) (out' : List ℕ) → turn s ≡ t → s' ≡ turned s t → out' ≡ shown s i store out t
+    → (answered t ≡ answered (turn s)) × ((s' ≡ turned s (turn s)) × (out' ≡ shown s i store out (turn s)))
+did s i store out t s' out' e a b = (ap answered (sym e), (a ∙ ap (turned s) (sym e), b ∙ ap (shown s i store out) (sym e)))
+
+part_is : (i n : ℕ) (s : List ℕ) → take ((i + n) - i) (drop i s) ≡ part s i n
+part_is i n s = let e : (i + n) - i ≡ n = omega arith in ap (λ (k : ℕ). take k (drop i s)) e
+
+free : (c : tie.Else-is_start_held) → let w = c.args.session.window in held_at w w.start ≡ false
+free c = sym c.is_start_held.ensures ∙ c.if-is_start_held.false
+
+pub returns-then-is_start_held : goal.returns-then-is_start_held
+returns-then-is_start_held c =
+    let w = c.before.before.before.before.before in
+    let t = w.before.before.before in
+    let k = t.before.before.before.before.before in
+    let a = k.args in
+    let s = a.session in
+    let from = slot_start s.window.start in
+    did s a.i a.store.now a.out.now _ _ _
+    (turn_packet single s (sym t.is_start_held.ensures ∙ t.if-is_start_held.true))
+    (c.with_window.ensures ∙ ap (with_window s) (c.free.ensures ∙ has_32_bits (freed s.window) (omega (arith, k.requires.0))))
+    (w.write_into.ensures ∙ ap (put a.out.now (1080 * a.i)) (part_is from 1080 a.store.now))
+
+pub returns-then-is_held_ahead : goal.returns-then-is_held_ahead
+returns-then-is_held_ahead c =
+    let h = c.before.before.before.before in
+    let k = h.before.before.before.before.before.before in
+    let a = k.args in
+    let s = a.session in
+    did s a.i a.store.now a.out.now _ _ _
+    (turn_missing single s (free h.before) (sym h.is_held_ahead.ensures ∙ c.if-is_held_ahead.true))
+    (c.with_window-then-is_held_ahead.ensures ∙ ap (with_window s) (c.skip.ensures ∙ has_32_bits (skipped s.window) (omega (arith, k.requires.0)))) refl
+
+pub returns : goal.returns
+returns c =
+    let a = c.args in
+    did a.session a.i a.store.now a.out.now _ _ _
+    (turn_waiting single a.session (free c.before.before.before) (sym c.is_held_ahead.ensures ∙ c.if-is_held_ahead.false))
+    refl refl
