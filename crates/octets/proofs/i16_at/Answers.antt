@@ -7,4 +7,4 @@ use borrow.Author.Rules.{rules}
 use Rattle.octets.proofs.i16_at.Goals as goal
 
 pub returns : goal.returns
-returns c = held w16 c.to_i16.typeinv (c.to_i16.ensures ∙ ap (signed 16) c.u16_at.ensures)
+returns c = held w16 c.to_i16.type_inv (c.to_i16.ensures ∙ ap (signed 16) c.u16_at.ensures)

@@ -7,4 +7,4 @@ use borrow.Author.Rules.{rules}
 use Rattle.octets.proofs.i32_at.Goals as goal
 
 pub returns : goal.returns
-returns c = held w32 c.to_i32.typeinv (c.to_i32.ensures ∙ ap (signed 32) c.u32_at.ensures)
+returns c = held w32 c.to_i32.type_inv (c.to_i32.ensures ∙ ap (signed 32) c.u32_at.ensures)

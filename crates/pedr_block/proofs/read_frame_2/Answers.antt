@@ -9,8 +9,8 @@ pub returns : goal.returns
 unfolding frame2_of
 returns c =
     λ i. record {
-      electronics_box_top_sc_thrmstr = held w16 c.i16_at.typeinv c.i16_at.ensures i;
-      laser_case_hot_foot_temp = held w16 c.i16_at-2.typeinv c.i16_at-2.ensures i;
+      electronics_box_top_sc_thrmstr = held w16 c.i16_at.type_inv c.i16_at.ensures i;
+      laser_case_hot_foot_temp = held w16 c.i16_at-2.type_inv c.i16_at-2.ensures i;
       plus_28_volt_voltage_monitor = c.u16_at.ensures i;
       reference_voltage_monitor = c.u16_at-2.ensures i;
       plus_12_volt_voltage_monitor = c.u16_at-3.ensures i;

@@ -44,8 +44,8 @@ returns c =
     let q = counted e in
     let micros = c.i32_at-micros in
     let lat = c.i32_at-latitude in
-    let m = held w32 micros.typeinv micros.ensures in
-    let l = held w32 lat.typeinv lat.ensures in
+    let m = held w32 micros.type_inv micros.ensures in
+    let l = held w32 lat.type_inv lat.ensures in
     let v : c.values_refusal.result ≡ values_refusal (value s time_micros) (value s latitude) (value s frame_index) =
     c.values_refusal.ensures ∙ (λ i. values_refusal (m i) (l i) (c.u16_at.ensures i)) in
     search rungs depth 10

@@ -9,7 +9,7 @@ pub returns : goal.returns
 unfolding link_of
 returns c =
     λ i. record {
-      seconds = held w32 c.i32_at.typeinv c.i32_at.ensures i;
-      millis = held w16 c.i16_at.typeinv c.i16_at.ensures i;
+      seconds = held w32 c.i32_at.type_inv c.i32_at.ensures i;
+      millis = held w16 c.i16_at.type_inv c.i16_at.ensures i;
       fine_time = c.u16_at.ensures i;
     }

@@ -9,7 +9,7 @@ pub returns : goal.returns
 unfolding pointing_of
 returns c =
     λ i. record {
-      right_ascension = held w32 c.i32_at.typeinv c.i32_at.ensures i;
-      declination = held w32 c.i32_at-2.typeinv c.i32_at-2.ensures i;
-      twist = held w32 c.i32_at-3.typeinv c.i32_at-3.ensures i;
+      right_ascension = held w32 c.i32_at.type_inv c.i32_at.ensures i;
+      declination = held w32 c.i32_at-2.type_inv c.i32_at-2.ensures i;
+      twist = held w32 c.i32_at-3.type_inv c.i32_at-3.ensures i;
     }

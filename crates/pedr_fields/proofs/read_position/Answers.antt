@@ -10,9 +10,9 @@ unfolding position_of
 returns c =
     λ i. record {
       orbit = c.u32_at.ensures i;
-      latitude = held w32 c.i32_at.typeinv c.i32_at.ensures i;
-      longitude = held w32 c.i32_at-2.typeinv c.i32_at-2.ensures i;
+      latitude = held w32 c.i32_at.type_inv c.i32_at.ensures i;
+      longitude = held w32 c.i32_at-2.type_inv c.i32_at-2.ensures i;
       radial_distance = c.u32_at-2.ensures i;
-      ground_latitude = held w32 c.i32_at-3.typeinv c.i32_at-3.ensures i;
-      ground_longitude = held w32 c.i32_at-4.typeinv c.i32_at-4.ensures i;
+      ground_latitude = held w32 c.i32_at-3.type_inv c.i32_at-3.ensures i;
+      ground_longitude = held w32 c.i32_at-4.type_inv c.i32_at-4.ensures i;
     }

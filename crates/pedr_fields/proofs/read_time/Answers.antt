@@ -9,6 +9,6 @@ pub returns : goal.returns
 unfolding time_of
 returns c =
     λ i. record {
-      whole = held w32 c.i32_at.typeinv c.i32_at.ensures i;
-      micros = held w32 c.i32_at-2.typeinv c.i32_at-2.ensures i;
+      whole = held w32 c.i32_at.type_inv c.i32_at.ensures i;
+      micros = held w32 c.i32_at-2.type_inv c.i32_at-2.ensures i;
     }

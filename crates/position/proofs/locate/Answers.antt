@@ -77,7 +77,7 @@ module _ (k : tie.After-struct_known-1) where
 rounds_is : (c : tie.After-rounds) → to_z w64 (of_z w64 c.rounds.result) ≡ shr_z (rest c.before.before) 229376
 rounds_is c =
     let k = c.before.before in
-    held w64 c.rounds.typeinv c.rounds.ensures
+    held w64 c.rounds.type_inv c.rounds.ensures
     ∙ simp (elapsed_is k, tolerance_is k, counted_is k, exact w64 tt (late_range k), exact w64 tt (due_range k), exact w64 tt (rest_range k))
 
 -- what `is_within` gave

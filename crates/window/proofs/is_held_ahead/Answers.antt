@@ -12,4 +12,4 @@ pub overflow_add-result : goal.overflow_add-result
 overflow_add-result c = omega (arith, leading_le 32 c.rotated.result)
 
 pub returns : goal.returns
-returns c = by_leading_zeros _ _ c.rotated.typeinv c.rotated.ensures _ (omega arith)
+returns c = by_leading_zeros _ _ c.rotated.type_inv c.rotated.ensures _ (omega arith)

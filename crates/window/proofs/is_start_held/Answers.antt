@@ -12,4 +12,4 @@ returns c =
     let r = c.rotated.result in
     let lowest : r % 2 ≡ bit r 0 = omega arith in
     let first : w.start + 0 ≡ w.start = omega arith in
-    ap (λ (n : ℕ). eqb n 1) (and_one r ∙ lowest) ∙ sym (rotated_held w r c.rotated.typeinv c.rotated.ensures 0 (omega arith)) ∙ ap (held_at w) first
+    ap (λ (n : ℕ). eqb n 1) (and_one r ∙ lowest) ∙ sym (rotated_held w r c.rotated.type_inv c.rotated.ensures 0 (omega arith)) ∙ ap (held_at w) first
