@@ -26,6 +26,8 @@ put_after (p ∷ ps) (c ∷ cs) s x a b t e (l ▹ f) =
     ap (λ (z : List ℕ). put_all z ps cs) (put_then x s p 0 c.start (omega (arith, q.0)))
     ∙ put_after ps cs s (x ++ p) (a + size c) b q.1 k f
     ∙ ap (put s 0) (append_assoc x p (join ps))
+put_after [] (c ∷ cs) s x a b t e x9 = elim x9 [ ]
+put_after (p ∷ ps) [] s x a b t e x8 = elim x8 [ ]
 
 -- in a list of the layout's length
 pub put_join : (ps : List (List ℕ)) (cs : List Column) (s : List ℕ) (b : ℕ) → tiles 0 b cs ≡ true → Fit ps cs → length s ≡ b
@@ -47,6 +49,8 @@ puts_join (p ∷ ps) (c ∷ cs) {s} a b t (l ▹ f) (e ▸ r) =
     let q = first c cs a b t in
     puts_join ps cs (a + size c) b q.1 f r ∙ ap (λ (z : List ℕ). put z (a + size c) (join ps)) (e ∙ ap (λ (i : ℕ). put s i p) q.0)
     ∙ put_then p s (join ps) a (a + size c) (omega (arith, l))
+puts_join [] (c ∷ cs) {s = s} a b t x6 _ = elim x6 [ ]
+puts_join (p ∷ ps) [] {s = s} a b t x6 _ = elim x6 [ ]
 
 -- one store of two parts, as two
 pub put_both : (a b s t : List ℕ) (i k : ℕ) → i + length a ≡ k → t ≡ put s i (a ++ b) → t ≡ put (put s i a) k b

@@ -7,10 +7,9 @@ use Rattle.aedr.specs.Decimal.{decimal}
 use Rattle.aedr.proofs.Texts.{text_line}
 use Rattle.aedr.proofs.Digits.{decimal_length}
 use Rattle.aedr.proofs.put_line.Goals as goal
-use Rattle.aedr.proofs.put_line.Tie as tie
 
 -- the two numbers have at most 20 digits and 2
-digits_room : (s : tie.Start) → (length (decimal s.args.number) ≤ 20) × (length (decimal s.args.answer) ≤ 2)
+digits_room : (s : goal.Start) → (length (decimal s.args.number) ≤ 20) × (length (decimal s.args.answer) ≤ 2)
 digits_room s = (decimal_length 19 s.args.number (omega arith), decimal_length 1 s.args.answer (omega arith))
 
 pub put_number-space-requires : goal.put_number-space-requires

@@ -9,7 +9,7 @@ slice_bounds-word_sum-end c = sym (length-take-le c.least-cut.result c.before.be
 
 pub returns : goal.returns
 returns c =
-    let l = c.before.before.before.before.before.before in
+    let l = c in
     let a = l.before.before.before.args in
     let s = a.bytes.now in
     let e = cut_end s a.word l.least.result l.least-cut.result l.least.ensures l.least-cut.ensures in

@@ -7,7 +7,7 @@ use Rattle.octets_runs_writer.proofs.write_u8s.Goals as goal
 
 pub returns : goal.returns
 returns c =
-    let s = c.before.before.before.before.before.before in
+    let s = c in
     let a = s.args in
     let b = all_bytes a.numbers.now (λ k. (s.shared_slice_known-1.given k).fits) in
     c.write_into.ensures ∙ ap (put a.out.now a.i) (sym b)

@@ -9,7 +9,7 @@ use Rattle.octets_writer.proofs.write_i16.Goals as goal
 
 pub returns : goal.returns
 returns c =
-    let b = c.before.before.before.before.before in
+    let b = c in
     let s = b.before.before in
     let a = s.args in
     let bits = b.i16_bits.ensures ∙ ap (complemented 16) (to_z-of_z w16 a.x s.ranges.x) in

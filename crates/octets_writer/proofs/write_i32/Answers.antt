@@ -9,7 +9,7 @@ use Rattle.octets_writer.proofs.write_i32.Goals as goal
 
 pub returns : goal.returns
 returns c =
-    let b = c.before.before.before.before.before in
+    let b = c in
     let s = b.before.before in
     let a = s.args in
     let bits = b.i32_bits.ensures ∙ ap (complemented 32) (to_z-of_z w32 a.x s.ranges.x) in

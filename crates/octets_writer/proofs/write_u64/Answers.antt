@@ -6,6 +6,6 @@ use Rattle.octets_writer.proofs.write_u64.Goals as goal
 
 pub returns : goal.returns
 returns c =
-    let b = c.before.before.before.before.before.before in
+    let b = c in
     let a = b.args in
     c.write_into.ensures ∙ ap (put a.out.now a.i) b.u64_bytes-bytes.ensures

@@ -11,7 +11,7 @@ use Rattle.octets_writer.proofs.write_u8.Goals as goal
 
 pub returns : goal.returns
 returns c =
-    let s = c.before.before.before.before.before.before.before in
+    let s = c in
     let x : ℕ = s.args.x in
     let b : Fits w8 x = search rules in
     let e : x ≡ x % 256 = omega (arith, b.fits) in

@@ -23,7 +23,7 @@ returns-in_default c =
 
 pub returns : goal.returns
 returns c =
-    let s = c.before.before.before.before.before.before.before.before.before.before.before.before.before in
+    let s = c in
     let a = s.args in
     let bs : List ℕ = a.bytes.now in
     let p = c.read_packet-read.ensures in

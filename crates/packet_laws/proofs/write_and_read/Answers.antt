@@ -10,10 +10,9 @@ use Rattle.packet_laws.specs.RoundTrip.{Typed}
 use Rattle.packet_laws.proofs.ReadBack.{read_back}
 use borrow.Author.Rules.{rules}
 use Rattle.packet_laws.proofs.write_and_read.Goals as goal
-use Rattle.packet_laws.proofs.write_and_read.Tie as tie
 
 -- the bounds of the types
-typed : (s : tie.Start) → Typed s.args.fields s.args.arrays
+typed : (s : goal.After-read_packet) → Typed s.args.fields s.args.arrays
 typed s = record {
   count_fits = search rules;
   time_fits = search rules;
@@ -36,7 +35,7 @@ returns-in-Refused c =
 
 pub returns : goal.returns
 returns c =
-    let s = c.before.before.before.before.before.before.before.before.before.before in
+    let s = c in
     let a = s.args in
     let w = c.write_packet-written.ensures in
     let q = answer_said _ tt _ (sym (ap written_said c.enum_told-1.given.1) ∙ w.0) in

@@ -7,10 +7,9 @@ use Rattle.octets.proofs.Ladder.{pass, fail, rungs}
 use Rattle.packet_layout.specs.SumWord.{is_sum_word}
 use Rattle.packet_writer.specs.Write.{write_refusal}
 use Rattle.packet_writer.proofs.refusal.Goals as goal
-use Rattle.packet_writer.proofs.refusal.Tie as tie
 
 -- a word that passed its test
-placed : (c : tie.Else-not-is_sum_word) → is_sum_word c.args.sum_word ≡ true
+placed : (c : goal.Else-not-is_sum_word) → is_sum_word c.args.sum_word ≡ true
 placed c = sym c.is_sum_word.ensures ∙ not-false _ c.if-not-is_sum_word.false
 
 pub returns-then-not-is_sum_word : goal.returns-then-not-is_sum_word

@@ -6,10 +6,9 @@ use Rattle.packet_writer.specs.Write.{packet_of}
 use Rattle.packet_writer.proofs.Accept.{Writable, writable, summed}
 use borrow.Author.Rules.{rules}
 use Rattle.packet_writer.proofs.write_packet.Goals as goal
-use Rattle.packet_writer.proofs.write_packet.Tie as tie
 
 -- past the test the writer may write
-may : (c : tie.Else-n-ne0) → let a = c.before.before.before.before.before.args in Writable a.fields a.carried.now a.sum_word a.out.now
+may : (c : goal.Else-n-ne0) → let a = c.before.before.before.before.before.args in Writable a.fields a.carried.now a.sum_word a.out.now
 may c = writable _ _ _ _ (sym c.refusal-n.ensures ∙ c.if-n-ne0.false)
 
 pub returns-then-n-ne0 : goal.returns-then-n-ne0
@@ -27,7 +26,7 @@ overflow_mul-sum_word c = let m = may c.before.before.before.before.before.befor
 
 pub returns : goal.returns
 returns c =
-    let e = c.before.before.before.before.before.before.before.before.before.before.before.before.before.before.before.before in
+    let e = c in
     let a = e.before.before.before.before.before.args in
     let z = sym e.refusal-n.ensures ∙ e.if-n-ne0.false in
     let u = c.write_unsummed in

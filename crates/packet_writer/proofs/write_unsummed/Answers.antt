@@ -5,15 +5,14 @@ use Rattle.packet.specs.declared.PacketArrays.{PacketArrays}
 use Rattle.packet_writer.proofs.Unsummed.{seven}
 use borrow.Author.Rules.{rules}
 use Rattle.packet_writer.proofs.write_unsummed.Goals as goal
-use Rattle.packet_writer.proofs.write_unsummed.Tie as tie
 
 -- the arrays' lengths, by their types
-lengths : (s : tie.Start) → (length s.args.t2 ≡ 16) × (length s.args.t3 ≡ 14)
+lengths : (s : goal.After-slice_known-8-1) → (length s.args.t2 ≡ 16) × (length s.args.t3 ≡ 14)
 lengths s = (search rules, search rules)
 
 pub returns : goal.returns
 returns c =
-    let s = c.before.before.before.before.before.before.before.before.before.before.before.before.before.before.before.before.before.before.before.before.before.before.before.before.before.before.before.before.before.before.before.before.before.before.before.before.before.before.before.before.before in
+    let s = c in
     let a = s.args in
     let l = lengths s in
     let h = c.head_bytes-head in

@@ -34,7 +34,7 @@ read_arrays-requires c = search rules
 
 pub returns : goal.returns
 returns c =
-    let k = c.before.before.before.before.before.before.before in
+    let k = c in
     let s = k.args.bytes.now in
     let z = sym k.record_refusal-n.ensures ∙ k.if-n-ne0.false in
     let f = c.read_fields-fields.ensures in

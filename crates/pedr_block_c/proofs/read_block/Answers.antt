@@ -10,7 +10,7 @@ use Rattle.pedr_block_c.proofs.read_block.Goals as goal
 pub returns-in-1 : goal.returns-in-1
 unfolding block_of block_numbers
 returns-in-1 c =
-    let u = c.before.before.before.before in
+    let u = c in
     let z = u.before in
     let e : ◌≡◌ {A = BlockNumbers} _ _ =
     λ i. record {
@@ -27,7 +27,7 @@ returns-in-1 c =
 pub returns-in-2 : goal.returns-in-2
 unfolding block_of block_numbers
 returns-in-2 c =
-    let u = c.before.before.before.before in
+    let u = c in
     let z = u.before in
     let e : ◌≡◌ {A = BlockNumbers} _ _ =
     λ i. record {
@@ -44,7 +44,7 @@ returns-in-2 c =
 pub returns-in-3 : goal.returns-in-3
 unfolding block_of block_numbers
 returns-in-3 c =
-    let u = c.before.before.before.before in
+    let u = c in
     let z = u.before in
     let e : ◌≡◌ {A = BlockNumbers} _ _ =
     λ i. record {
@@ -61,7 +61,7 @@ returns-in-3 c =
 pub returns-in-4 : goal.returns-in-4
 unfolding block_of block_numbers
 returns-in-4 c =
-    let u = c.before.before.before in
+    let u = c in
     let z = u.before in
     let e : ◌≡◌ {A = BlockNumbers} _ _ =
     λ i. record {
@@ -78,7 +78,7 @@ returns-in-4 c =
 pub returns-in-5 : goal.returns-in-5
 unfolding block_of block_numbers
 returns-in-5 c =
-    let u = c.before.before.before.before in
+    let u = c in
     let z = u.before in
     let e : ◌≡◌ {A = BlockNumbers} _ _ =
     λ i. record {
@@ -95,7 +95,7 @@ returns-in-5 c =
 pub returns-in-6 : goal.returns-in-6
 unfolding block_of block_numbers
 returns-in-6 c =
-    let u = c.before.before.before.before in
+    let u = c in
     let z = u.before in
     let e : ◌≡◌ {A = BlockNumbers} _ _ =
     λ i. record {
@@ -112,7 +112,7 @@ returns-in-6 c =
 pub returns-in_default : goal.returns-in_default
 unfolding block_of block_numbers
 returns-in_default c =
-    let u = c.before.before.before.before in
+    let u = c in
     let z = u.before in
     let e : ◌≡◌ {A = BlockNumbers} _ _ =
     λ i. record {

@@ -6,7 +6,7 @@ use Rattle.pedr_block_round_trip.proofs.type_frame_1.Goals as goal
 
 pub returns : goal.returns
 returns c =
-    let s = c.before in
+    let s = c in
     (let of_type = s.well_formed.0.1.1.0 in one_signed s.args.fields.computer_memory_temperature (search rules))
     ▶ (let of_type = s.well_formed.0.1.1.1.0 in one_signed s.args.fields.computer_cpu_temperature (search rules))
     ▶ (let of_type = s.well_formed.0.1.1.1.1.0 in one_signed s.args.fields.power_supply_temperature (search rules))

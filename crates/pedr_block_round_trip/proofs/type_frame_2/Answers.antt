@@ -6,7 +6,7 @@ use Rattle.pedr_block_round_trip.proofs.type_frame_2.Goals as goal
 
 pub returns : goal.returns
 returns c =
-    let s = c.before in
+    let s = c in
     (let of_type = s.well_formed.0.1.1.0 in one_signed s.args.fields.electronics_box_top_sc_thrmstr (search rules))
     ▶ (let of_type = s.well_formed.0.1.1.1.0 in one_signed s.args.fields.laser_case_hot_foot_temp (search rules))
     ▶ (let of_type = s.well_formed.0.1.1.1.1.0 in one 2 s.args.fields.plus_28_volt_voltage_monitor (search rules))

@@ -9,19 +9,18 @@ use Rattle.layout.proofs.Row.{◌▶◌}
 use borrow.Author.Rules.{rules}
 use Rattle.pedr_block_round_trip.proofs.Typed.{one, items, bytes}
 use Rattle.pedr_block_round_trip.proofs.type_frame_3.Goals as goal
-use Rattle.pedr_block_round_trip.proofs.type_frame_3.Tie as tie
 
 -- the array's length and numbers, by its type
-flags : (s : tie.Start) → (length s.args.flags ≡ 2) × ((k : ℕ) → Fits w16 (get_or s.args.flags k 0))
+flags : (s : goal.After-u8_at) → (length s.args.flags ≡ 2) × ((k : ℕ) → Fits w16 (get_or s.args.flags k 0))
 flags s = (search rules, λ k. search rules)
 
 -- the array's length and numbers, by its type
-tracker : (s : tie.Start) → (length s.args.tracker ≡ 14) × ((k : ℕ) → Fits w16 (get_or s.args.tracker k 0))
+tracker : (s : goal.After-u8_at) → (length s.args.tracker ≡ 14) × ((k : ℕ) → Fits w16 (get_or s.args.tracker k 0))
 tracker s = (search rules, λ k. search rules)
 
 pub returns : goal.returns
 returns c =
-    let s = c.before.before.before in
+    let s = c in
     let flags_is = flags s in
     let tracker_is = tracker s in
     (let of_type = s.well_formed.0.1.1.0 in one 2 s.args.fields.minus_5_volt_current_monitor (search rules))

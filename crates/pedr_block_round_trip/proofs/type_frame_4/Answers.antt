@@ -9,15 +9,14 @@ use Rattle.layout.proofs.Row.{◌▶◌}
 use borrow.Author.Rules.{rules}
 use Rattle.pedr_block_round_trip.proofs.Typed.{items}
 use Rattle.pedr_block_round_trip.proofs.type_frame_4.Goals as goal
-use Rattle.pedr_block_round_trip.proofs.type_frame_4.Tie as tie
 
 -- the array's length and numbers, by its type
-tracker : (s : tie.Start) → (length s.args.tracker ≡ 14) × ((k : ℕ) → Fits w16 (get_or s.args.tracker k 0))
+tracker : (s : goal.Start) → (length s.args.tracker ≡ 14) × ((k : ℕ) → Fits w16 (get_or s.args.tracker k 0))
 tracker s = (search rules, λ k. search rules)
 
 pub returns : goal.returns
 returns c =
-    let s = c.before in
+    let s = c in
     let tracker_is = tracker s in
     items 14 s.args.tracker (omega (arith, tracker_is.0)) (λ k. (tracker_is.1 k).fits)
     ▶ tt

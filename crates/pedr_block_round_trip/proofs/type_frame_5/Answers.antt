@@ -9,19 +9,18 @@ use Rattle.layout.proofs.Row.{◌▶◌}
 use borrow.Author.Rules.{rules}
 use Rattle.pedr_block_round_trip.proofs.Typed.{one, items, bytes}
 use Rattle.pedr_block_round_trip.proofs.type_frame_5.Goals as goal
-use Rattle.pedr_block_round_trip.proofs.type_frame_5.Tie as tie
 
 -- the array's length and numbers, by its type
-tracker : (s : tie.Start) → (length s.args.tracker ≡ 14) × ((k : ℕ) → Fits w16 (get_or s.args.tracker k 0))
+tracker : (s : goal.After-u8_at) → (length s.args.tracker ≡ 14) × ((k : ℕ) → Fits w16 (get_or s.args.tracker k 0))
 tracker s = (search rules, λ k. search rules)
 
 -- the array's length and numbers, by its type
-dump : (s : tie.Start) → (length s.args.dump ≡ 5) × ((k : ℕ) → Fits w16 (get_or s.args.dump k 0))
+dump : (s : goal.After-u8_at) → (length s.args.dump ≡ 5) × ((k : ℕ) → Fits w16 (get_or s.args.dump k 0))
 dump s = (search rules, λ k. search rules)
 
 pub returns : goal.returns
 returns c =
-    let s = c.before.before.before in
+    let s = c in
     let tracker_is = tracker s in
     let dump_is = dump s in
     items 6 s.args.tracker (omega (arith, tracker_is.0)) (λ k. (tracker_is.1 k).fits)

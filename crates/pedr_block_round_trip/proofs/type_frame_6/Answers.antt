@@ -9,19 +9,18 @@ use Rattle.layout.proofs.Row.{◌▶◌}
 use borrow.Author.Rules.{rules}
 use Rattle.pedr_block_round_trip.proofs.Typed.{one, items}
 use Rattle.pedr_block_round_trip.proofs.type_frame_6.Goals as goal
-use Rattle.pedr_block_round_trip.proofs.type_frame_6.Tie as tie
 
 -- the array's length and numbers, by its type
-dump : (s : tie.Start) → (length s.args.dump ≡ 5) × ((k : ℕ) → Fits w16 (get_or s.args.dump k 0))
+dump : (s : goal.Start) → (length s.args.dump ≡ 5) × ((k : ℕ) → Fits w16 (get_or s.args.dump k 0))
 dump s = (search rules, λ k. search rules)
 
 -- the array's length and numbers, by its type
-echo : (s : tie.Start) → (length s.args.echo ≡ 8) × ((k : ℕ) → Fits w16 (get_or s.args.echo k 0))
+echo : (s : goal.Start) → (length s.args.echo ≡ 8) × ((k : ℕ) → Fits w16 (get_or s.args.echo k 0))
 echo s = (search rules, λ k. search rules)
 
 pub returns : goal.returns
 returns c =
-    let s = c.before in
+    let s = c in
     let dump_is = dump s in
     let echo_is = echo s in
     items 5 s.args.dump (omega (arith, dump_is.0)) (λ k. (dump_is.1 k).fits)

@@ -6,7 +6,7 @@ use Rattle.pedr_block_round_trip.proofs.type_frame_7.Goals as goal
 
 pub returns : goal.returns
 returns c =
-    let s = c.before.before.before in
+    let s = c in
     (let of_type = s.well_formed.0.1.1.0 in one 4 s.args.fields.ots_range (search rules))
     ▶ (let of_type = s.well_formed.0.1.1.1.0 in one 4 s.args.fields.first_ch_received_energy (search rules))
     ▶ bytes s.args.carried.now 0 4 (λ k. (c.shared_slice_known-1.given k).fits)

@@ -6,10 +6,9 @@ use Rattle.octets.specs.Table.{octets_of_all}
 use Rattle.octets_writer.proofs.Signed.{signed_bits}
 use borrow.Author.Rules.{rules}
 use Rattle.pedr_block_writer.proofs.frame_1_words.Goals as goal
-use Rattle.pedr_block_writer.proofs.frame_1_words.Tie as tie
 
 -- the signed fields, by their types
-fit : (s : tie.Start) → SFits w16 s.args.fields.computer_memory_temperature × SFits w16 s.args.fields.computer_cpu_temperature × SFits w16 s.args.fields.power_supply_temperature × SFits w16 s.args.fields.computer_io_temperature × SFits w16 s.args.fields.laser_diode_array_temperature × SFits w16 s.args.fields.laser_diode_drive_elecs_temp × SFits w16 s.args.fields.optical_test_source_led_temp × SFits w16 s.args.fields.hundred_mhz_oscillator_temp × SFits w16 s.args.fields.start_detector_temperature × SFits w16 s.args.fields.outside_detector_housing_temp × SFits w16 s.args.fields.lasr_radiatr_opp_opt_port_temp × SFits w16 s.args.fields.lser_radiator_output_port_temp × SFits w16 s.args.fields.interface_plate_hot_foot_temp × SFits w16 s.args.fields.honeycomb_panel_temperature
+fit : (s : goal.After-i16_bits-honeycomb_panel_temperature) → SFits w16 s.args.fields.computer_memory_temperature × SFits w16 s.args.fields.computer_cpu_temperature × SFits w16 s.args.fields.power_supply_temperature × SFits w16 s.args.fields.computer_io_temperature × SFits w16 s.args.fields.laser_diode_array_temperature × SFits w16 s.args.fields.laser_diode_drive_elecs_temp × SFits w16 s.args.fields.optical_test_source_led_temp × SFits w16 s.args.fields.hundred_mhz_oscillator_temp × SFits w16 s.args.fields.start_detector_temperature × SFits w16 s.args.fields.outside_detector_housing_temp × SFits w16 s.args.fields.lasr_radiatr_opp_opt_port_temp × SFits w16 s.args.fields.lser_radiator_output_port_temp × SFits w16 s.args.fields.interface_plate_hot_foot_temp × SFits w16 s.args.fields.honeycomb_panel_temperature
 fit s =
     let g = s.well_formed.0.1 in (
       let of_type = g.1.0 in search rules,
@@ -31,7 +30,7 @@ fit s =
 pub returns : goal.returns
 unfolding octets_of_all
 returns c =
-    let s = c.before.before.before.before.before.before.before.before.before.before.before.before.before.before.before.before.before.before.before.before.before.before.before.before.before.before.before.before.before in
+    let s = c in
     let f = fit s in
     let e1 = signed_bits w16 16 s.args.fields.computer_memory_temperature _ f.0 c.i16_bits-computer_memory_temperature.ensures in
     let e2 = signed_bits w16 16 s.args.fields.computer_cpu_temperature _ f.1 c.i16_bits-computer_cpu_temperature.ensures in

@@ -6,10 +6,9 @@ use Rattle.octets.specs.Table.{octets_of_all}
 use Rattle.octets_writer.proofs.Signed.{signed_bits}
 use borrow.Author.Rules.{rules}
 use Rattle.pedr_block_writer.proofs.frame_2_words.Goals as goal
-use Rattle.pedr_block_writer.proofs.frame_2_words.Tie as tie
 
 -- the signed fields, by their types
-fit : (s : tie.Start) → SFits w16 s.args.fields.electronics_box_top_sc_thrmstr × SFits w16 s.args.fields.laser_case_hot_foot_temp
+fit : (s : goal.After-i16_bits-laser_case_hot_foot_temp) → SFits w16 s.args.fields.electronics_box_top_sc_thrmstr × SFits w16 s.args.fields.laser_case_hot_foot_temp
 fit s =
     let g = s.well_formed.0.1 in (
       let of_type = g.1.0 in search rules,
@@ -19,7 +18,7 @@ fit s =
 pub returns : goal.returns
 unfolding octets_of_all
 returns c =
-    let s = c.before.before.before.before.before in
+    let s = c in
     let f = fit s in
     let e1 = signed_bits w16 16 s.args.fields.electronics_box_top_sc_thrmstr _ f.0 c.i16_bits-electronics_box_top_sc_thrmstr.ensures in
     let e2 = signed_bits w16 16 s.args.fields.laser_case_hot_foot_temp _ f.1 c.i16_bits-laser_case_hot_foot_temp.ensures in

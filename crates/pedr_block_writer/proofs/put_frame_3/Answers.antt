@@ -13,14 +13,13 @@ use Rattle.pedr_block_writer.proofs.Fits.{frame3_fits}
 use Rattle.pedr_block_writer.proofs.Stores.{whole_stored, bytes_stored}
 use borrow.Author.Rules.{rules}
 use Rattle.pedr_block_writer.proofs.put_frame_3.Goals as goal
-use Rattle.pedr_block_writer.proofs.put_frame_3.Tie as tie
 
 -- the arrays' lengths, by their types
-lengths : (s : tie.Start) → (length s.args.t2 ≡ 2) × (length s.args.t3 ≡ 14)
+lengths : (s : goal.Start) → (length s.args.t2 ≡ 2) × (length s.args.t3 ≡ 14)
 lengths s = (search rules, search rules)
 
 -- the carried bytes are bytes
-octets : (c : tie.After-slice_known-14-1) → Octets c.before.before.before.before.before.before.before.before.before.before.before.before.before.before.before.before.before.before.before.before.before.before.before.before.before.before.before.before.before.before.before.before.before.before.before.before.before.before.before.before.before.before.before.before.before.before.before.before.before.before.before.before.before.before.before.before.before.args.carried.now
+octets : (c : goal.After-slice_known-14-1) → Octets c.before.before.before.before.before.before.before.before.before.before.before.before.before.before.before.before.before.before.before.before.before.before.before.before.before.before.before.before.before.before.before.before.before.before.before.before.before.before.before.before.before.before.before.before.before.before.before.before.before.before.before.before.before.before.before.before.before.args.carried.now
 octets c k = (c.shared_slice_known-1.given k).fits
 
 -- a store leaves the output's length
@@ -34,7 +33,7 @@ shape_of-out c = ap length (returns c) ∙ put_length _ _ _
 pub returns : goal.returns
 unfolding octets_of_all
 returns c =
-    let s = c.before.before.before.before.before.before.before.before.before.before.before.before.before.before.before.before.before.before.before.before.before.before.before.before.before.before.before.before.before.before.before.before.before.before.before.before.before.before.before.before.before.before.before.before.before.before.before.before.before.before.before.before.before.before.before.before.before in
+    let s = c in
     puts_join (row_parts (columns.columns_in columns.frame3) (frame3_row s.args.fields s.args.t2 s.args.t3 s.args.carried.now)) (columns.columns_in columns.frame3) columns.block_start columns.block_end refl
     (frame3_fits s.args.fields s.args.t2 s.args.t3 _ (lengths s).0 (lengths s).1)
     (c.write_u16.ensures
@@ -48,6 +47,6 @@ returns c =
     ▸ c.write_u8-4.ensures
     ▸ c.write_u8-5.ensures
     ▸ c.write_u8-6.ensures
-    ▸ bytes_stored s.args.carried.now _ _ _ _ _ (octets c.before) c.copy_part.ensures
+    ▸ bytes_stored s.args.carried.now _ _ _ _ _ (octets c) c.copy_part.ensures
     ▸ c.write_u16s-2.ensures
     ▸ stop)

@@ -11,10 +11,9 @@ use Rattle.pedr_block_writer.proofs.Fits.{frame4_fits}
 use Rattle.pedr_block_writer.proofs.Stores.{whole_stored}
 use borrow.Author.Rules.{rules}
 use Rattle.pedr_block_writer.proofs.put_frame_4.Goals as goal
-use Rattle.pedr_block_writer.proofs.put_frame_4.Tie as tie
 
 -- the array's length, by its type
-lengths : (s : tie.Start) → length s.args.t1 ≡ 14
+lengths : (s : goal.After-slice_known-2-1) → length s.args.t1 ≡ 14
 lengths s = search rules
 
 -- a store leaves the output's length
@@ -25,7 +24,7 @@ shape_of-out c = ap length (returns c) ∙ put_length _ _ _
 pub returns : goal.returns
 unfolding octets_of_all
 returns c =
-    let s = c.before.before.before.before.before.before.before in
+    let s = c in
     puts_join (row_parts (columns.columns_in columns.frame4) (frame4_row s.args.t1)) (columns.columns_in columns.frame4) columns.block_start columns.block_end refl
     (frame4_fits s.args.t1 (lengths s))
     (whole_stored 14 s.args.t1 _ _ _ (lengths s) c.write_u16s.ensures

@@ -11,10 +11,9 @@ use Rattle.pedr_block_writer.proofs.Fits.{frame6_fits}
 use Rattle.pedr_block_writer.proofs.Stores.{whole_stored}
 use borrow.Author.Rules.{rules}
 use Rattle.pedr_block_writer.proofs.put_frame_6.Goals as goal
-use Rattle.pedr_block_writer.proofs.put_frame_6.Tie as tie
 
 -- the arrays' lengths, by their types
-lengths : (s : tie.Start) → (length s.args.t2 ≡ 5) × (length s.args.t3 ≡ 8)
+lengths : (s : goal.After-slice_known-4-1) → (length s.args.t2 ≡ 5) × (length s.args.t3 ≡ 8)
 lengths s = (search rules, search rules)
 
 -- a store leaves the output's length
@@ -25,7 +24,7 @@ shape_of-out c = ap length (returns c) ∙ put_length _ _ _
 pub returns : goal.returns
 unfolding octets_of_all
 returns c =
-    let s = c.before.before.before.before.before.before.before.before.before.before.before.before.before.before.before.before in
+    let s = c in
     puts_join (row_parts (columns.columns_in columns.frame6) (frame6_row s.args.fields s.args.t2 s.args.t3)) (columns.columns_in columns.frame6) columns.block_start columns.block_end refl
     (frame6_fits s.args.fields s.args.t2 s.args.t3 (lengths s).0 (lengths s).1)
     (whole_stored 5 s.args.t2 _ _ _ (lengths s).0 c.write_u16s.ensures

@@ -12,10 +12,9 @@ use Rattle.pedr_block_writer.proofs.Fits.{frame7_fits}
 use Rattle.pedr_block_writer.proofs.Stores.{bytes_stored}
 use borrow.Author.Rules.{rules}
 use Rattle.pedr_block_writer.proofs.put_frame_7.Goals as goal
-use Rattle.pedr_block_writer.proofs.put_frame_7.Tie as tie
 
 -- the carried bytes are bytes
-octets : (c : tie.After-slice_known-11-1) → Octets c.args.carried.now
+octets : (c : goal.After-slice_known-11-1) → Octets c.args.carried.now
 octets c k = (c.shared_slice_known-1.given k).fits
 
 -- a store leaves the output's length
@@ -26,17 +25,17 @@ shape_of-out c = ap length (returns c) ∙ put_length _ _ _
 pub returns : goal.returns
 unfolding octets_of_all
 returns c =
-    let s = c.before.before.before.before.before.before.before.before.before.before.before.before.before.before.before.before.before.before.before.before.before.before.before.before.before.before.before.before.before.before.before.before.before.before.before.before.before.before.before.before.before.before.before in
+    let s = c in
     puts_join (row_parts (columns.columns_in columns.frame7) (frame7_row s.args.fields s.args.carried.now)) (columns.columns_in columns.frame7) columns.block_start columns.block_end refl
     (frame7_fits s.args.fields _)
     (c.write_u32.ensures
     ▸ c.write_u32-2.ensures
-    ▸ bytes_stored s.args.carried.now _ _ _ _ _ (octets c.before) c.copy_part.ensures
+    ▸ bytes_stored s.args.carried.now _ _ _ _ _ (octets c) c.copy_part.ensures
     ▸ c.write_u32-3.ensures
     ▸ c.write_u8.ensures
     ▸ c.write_u8-2.ensures
     ▸ c.write_u8-3.ensures
     ▸ c.write_u8-4.ensures
     ▸ c.write_u16.ensures
-    ▸ bytes_stored s.args.carried.now _ _ _ _ _ (octets c.before) c.copy_part-2.ensures
+    ▸ bytes_stored s.args.carried.now _ _ _ _ _ (octets c) c.copy_part-2.ensures
     ▸ stop)

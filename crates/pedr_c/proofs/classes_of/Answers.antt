@@ -10,13 +10,12 @@ use Rattle.pedr_arrays.specs.Arrays.{shot_class}
 use Rattle.pedr_arrays.specs.declared.ShotClass.{ShotClass}
 use borrow.Author.Rules.{rules}
 use Rattle.pedr_c.proofs.classes_of.Goals as goal
-use Rattle.pedr_c.proofs.classes_of.Tie as tie
 
 abbrev class_at : List ℕ → ℕ → ShotClass
 class_at numbers k = shot_class (get_or numbers k 0)
 
 -- the array's length, by its type
-shots : (s : tie.Start goal.the-invariant-loop-k goal.the-decreases-loop-k) → length s.args.t1 ≡ 20
+shots : (s : goal.Start) → length s.args.t1 ≡ 20
 shots s = search rules
 
 pub loop-k-init : goal.loop-k-init
@@ -51,5 +50,5 @@ returns c =
     let l = c.loop-k in
     let numbers = c.args.t1 in
     let f = class_at numbers in
-    fill_done f _ l.classes l.k c.loop-k-test.false l.invariant ∙ ap (λ (n : ℕ). table n f) (sym (shots c.before.before.before))
+    fill_done f _ l.classes l.k c.loop-k-test.false l.invariant ∙ ap (λ (n : ℕ). table n f) (sym (shots (goal.at.returns c).Start))
     ∙ table_map shot_class numbers 0

@@ -22,7 +22,7 @@ returns-then-n-ne0 c =
 
 pub returns : goal.returns
 returns c =
-    let b = c.before.before.before.before.before.before.before in
+    let b = c in
     let s = b.args.bytes.now in
     let z = sym b.record_refusal-n.ensures ∙ b.if-n-ne0.false in
     let f = c.read_fields-fields.ensures in

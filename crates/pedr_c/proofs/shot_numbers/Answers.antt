@@ -5,7 +5,7 @@ use Rattle.pedr_c.proofs.shot_numbers.Goals as goal
 pub returns : goal.returns
 unfolding shot_numbers
 returns c =
-    let s = c.before.before.before.before.before.before.before.before.before.before in
+    let s = c in
     let a = s.args.arrays in
     λ i. record {
       radius = a.radius;

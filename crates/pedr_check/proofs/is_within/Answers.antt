@@ -10,9 +10,8 @@ use Rattle.numbers.proofs.Integers.{abs_above, abs_below}
 use Rattle.numbers.proofs.Ranges.{Range, of_nat, of_unsigned, of_width, of_difference, in_width, exact, reread, widened}
 use borrow.Author.Rules.{rules}
 use Rattle.pedr_check.proofs.is_within.Goals as goal
-use Rattle.pedr_check.proofs.is_within.Tie as tie
 
-module _ (a : tie.Start) where
+module _ (a : goal.Start) where
   lowest : Range 4294967296 (pos 0 -ℤ pos a.args.most)
   lowest = of_difference (of_nat 0 0 (omega arith)) (of_unsigned a.ranges.most)
 
@@ -27,14 +26,14 @@ pub overflow_cast-near : goal.overflow_cast-near
 overflow_cast-near c = sfits_widen tt (reread c.ranges.x)
 
 pub overflow_sub-far : goal.overflow_sub-far
-overflow_sub-far c = simp (far_is c.before) (in_width w64 tt (lowest c.before))
+overflow_sub-far c = simp (far_is c) (in_width w64 tt (lowest c))
 
 pub returns-then-far-near : goal.returns-then-far-near
 returns-then-far-near c =
-    let a = c.before.before in
+    let a = c in
     simp (near_is a, far_is a) (abs_above a.args.x a.args.most (simp (near_is a, far_is a, exact w64 tt (lowest a)) at c.if-far-near.true))
 
 pub returns-else-far-near : goal.returns-else-far-near
 returns-else-far-near c =
-    let a = c.before.before in
+    let a = c in
     c.if-far-near.false ∙ sym (abs_below a.args.x a.args.most (simp (near_is a, far_is a, exact w64 tt (lowest a)) at c.if-far-near.false))

@@ -11,19 +11,18 @@ use Rattle.pedr_layout.specs.Layout.{quality_number, quality_counter, time_micro
 use Rattle.pedr_flags.specs.Quality.{good_count}
 use Rattle.pedr_check.specs.Refusal.{values_refusal, record_refusal}
 use Rattle.pedr_check.proofs.record_refusal.Goals as goal
-use Rattle.pedr_check.proofs.record_refusal.Tie as tie
 
 -- the record's bytes where its counter has been read, and what its test shows of them
-abbrev record_at : tie.After-u8_at → List ℕ
+abbrev record_at : goal.After-u8_at → List ℕ
 record_at c = c.before.before.before.before.before.args.bytes.now
 
-good_is : (c : tie.After-u8_at) → c.good_count-good.result ≡ good_count (value (record_at c) quality_number)
+good_is : (c : goal.After-u8_at) → c.good_count-good.result ≡ good_count (value (record_at c) quality_number)
 good_is c = c.good_count-good.ensures ∙ ap good_count c.u24_at.ensures
 
-counted : (c : tie.Else-good-u8_at) → good_count (value (record_at c.before) quality_number) ≡ value (record_at c.before) quality_counter
+counted : (c : goal.Else-good-u8_at) → good_count (value (record_at c.before) quality_number) ≡ value (record_at c.before) quality_counter
 counted c = sym (good_is c.before) ∙ c.if-good-u8_at.false ∙ c.u8_at.ensures
 
-miscounted : (c : tie.Then-good-u8_at) → good_count (value (record_at c.before) quality_number) ≡ value (record_at c.before) quality_counter → ⊥
+miscounted : (c : goal.Then-good-u8_at) → good_count (value (record_at c.before) quality_number) ≡ value (record_at c.before) quality_counter → ⊥
 miscounted c e = c.if-good-u8_at.true (good_is c.before ∙ e ∙ sym c.u8_at.ensures)
 
 pub returns-then-bytes-ne-RECORD_SIZE : goal.returns-then-bytes-ne-RECORD_SIZE
@@ -33,13 +32,13 @@ returns-then-bytes-ne-RECORD_SIZE c = search rungs depth 10
 pub returns-then-good-u8_at : goal.returns-then-good-u8_at
 unfolding record_refusal
 returns-then-good-u8_at c =
-    let n = miscounted c.before in
+    let n = miscounted c in
     search rungs depth 10
 
 pub returns : goal.returns
 unfolding record_refusal
 returns c =
-    let e = c.before.before.before.before.before in
+    let e = c in
     let s = record_at e.before in
     let q = counted e in
     let micros = c.i32_at-micros in

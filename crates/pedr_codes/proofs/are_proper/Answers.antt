@@ -7,10 +7,9 @@ use Rattle.octets.proofs.Each.{Tested, tested_none, tested_more, tested_all}
 use Rattle.pedr_codes.specs.Codes.{is_proper_shot}
 use borrow.Author.Rules.{rules}
 use Rattle.pedr_codes.proofs.are_proper.Goals as goal
-use Rattle.pedr_codes.proofs.are_proper.Tie as tie
 
 -- the array's length, by its type
-shots : (s : tie.Start goal.the-invariant-loop-k goal.the-decreases-loop-k) → length s.args.t1 ≡ 20
+shots : (s : goal.Start) → length s.args.t1 ≡ 20
 shots s = search rules
 
 pub loop-k-init : goal.loop-k-init
@@ -31,13 +30,13 @@ loop-k-smaller c = omega arith
 pub loop-k-preserved : goal.loop-k-preserved
 loop-k-preserved c =
     let l = c.loop-k in
-    let s = c.before.before.before.before.before in
+    let s = c in
     let n = shots s in
     tested_more is_proper_shot s.args.t1 l.all l.k _ _ (omega arith) c.is_proper-proper.ensures l.invariant
 
 pub returns : goal.returns
 returns c =
     let l = c.loop-k in
-    let s = c.before.before.before in
+    let s = c in
     let n = shots s in
     tested_all is_proper_shot s.args.t1 l.all l.k (omega arith) l.invariant

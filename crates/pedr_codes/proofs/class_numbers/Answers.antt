@@ -9,10 +9,9 @@ use Rattle.pedr_arrays.specs.Arrays.{shot_class}
 use Rattle.pedr_arrays.specs.Arrays.{shot_class_number}
 use borrow.Author.Rules.{rules}
 use Rattle.pedr_codes.proofs.class_numbers.Goals as goal
-use Rattle.pedr_codes.proofs.class_numbers.Tie as tie
 
 -- the array's length, by its type
-twenty : (s : tie.Start goal.the-invariant-loop-k goal.the-decreases-loop-k) → length s.args.t1 ≡ 20
+twenty : (s : goal.Start) → length s.args.t1 ≡ 20
 twenty s = search rules
 
 pub loop-k-init : goal.loop-k-init
@@ -45,7 +44,7 @@ loop-k-preserved c =
 pub returns : goal.returns
 returns c =
     let l = c.loop-k in
-    let s = c.before.before.before in
+    let s = c in
     let xs = s.args.t1 in
     fill_done (λ j. shot_class_number (get_or xs j (shot_class 0))) _ l.numbers l.k c.loop-k-test.false l.invariant
     ∙ ap (λ n. table n (λ j. shot_class_number (get_or xs j (shot_class 0)))) (sym (twenty s)) ∙ table_map shot_class_number xs (shot_class 0)

@@ -9,10 +9,9 @@ use Rattle.pedr_flags.specs.Encoder.{encoder_of}
 use Rattle.pedr_flags_writer.specs.Encoder.{encoder_byte}
 use borrow.Author.Rules.{rules}
 use Rattle.pedr_codes.proofs.encoder_bytes.Goals as goal
-use Rattle.pedr_codes.proofs.encoder_bytes.Tie as tie
 
 -- the array's length, by its type
-shots : (s : tie.Start goal.the-invariant-loop-k goal.the-decreases-loop-k) → length s.args.t1 ≡ 20
+shots : (s : goal.Start) → length s.args.t1 ≡ 20
 shots s = search rules
 
 pub loop-k-init : goal.loop-k-init
@@ -42,7 +41,7 @@ loop-k-preserved c =
 pub returns : goal.returns
 returns c =
     let l = c.loop-k in
-    let s = c.before.before.before in
+    let s = c in
     let xs = s.args.t1 in
     fill_done (λ j. encoder_byte (get_or xs j (encoder_of 0))) _ l.bytes l.k c.loop-k-test.false l.invariant
     ∙ ap (λ n. table n (λ j. encoder_byte (get_or xs j (encoder_of 0)))) (sym (shots s)) ∙ table_map encoder_byte xs (encoder_of 0)

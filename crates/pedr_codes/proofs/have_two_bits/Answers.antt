@@ -11,10 +11,9 @@ use Rattle.pedr_codes.specs.Together.{bytes_have_two_bits}
 use Rattle.pedr_codes.proofs.Together.{together}
 use borrow.Author.Rules.{rules}
 use Rattle.pedr_codes.proofs.have_two_bits.Goals as goal
-use Rattle.pedr_codes.proofs.have_two_bits.Tie as tie
 
 -- the array's length, by its type
-shots : (s : tie.Start goal.the-invariant-loop-k goal.the-decreases-loop-k) → length s.args.t1 ≡ 20
+shots : (s : goal.Start) → length s.args.t1 ≡ 20
 shots s = search rules
 
 pub loop-k-init : goal.loop-k-init
@@ -35,7 +34,7 @@ loop-k-smaller c = omega arith
 pub loop-k-preserved : goal.loop-k-preserved
 loop-k-preserved c =
     let l = c.loop-k in
-    let s = c.before.before.before.before.before in
+    let s = c in
     let es = s.args.t1 in
     let n = shots s in
     let w = c.encoder_word-bits in
@@ -45,6 +44,6 @@ loop-k-preserved c =
 pub returns : goal.returns
 returns c =
     let l = c.loop-k in
-    let s = c.before.before.before.before in
+    let s = c in
     let n = shots s in
     c.bytes_have_two_bits.ensures ∙ tested_all has_two_bits s.args.t1 (bytes_have_two_bits l.bits) l.k (omega arith) l.invariant

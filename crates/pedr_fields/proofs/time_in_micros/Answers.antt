@@ -8,7 +8,6 @@ use mir.Facts.{sfits_widen}
 use Rattle.numbers.proofs.Ranges.{Range, of_width, of_sum, of_multiple, in_width, exact, reread}
 use borrow.Author.Rules.{rules}
 use Rattle.pedr_fields.proofs.time_in_micros.Goals as goal
-use Rattle.pedr_fields.proofs.time_in_micros.Tie as tie
 
 kept : (x : ℤ) → SFits w32 x → to_z w64 (of_z w64 (to_z w32 (of_z w32 x))) ≡ x
 kept x f = simp (to_z-of_z w32 x f, exact w64 tt (of_width w32 x f))
@@ -19,17 +18,17 @@ product x f = subst (Range 2147483648000000) (*ℤ_comm (pos 1000000) x) (of_mul
 total : (x y : ℤ) → SFits w32 x → SFits w32 y → Range 2147485795483648 (x *ℤ pos 1000000 +ℤ y)
 total x y f g = of_sum (product x f) (of_width w32 y g)
 
-whole_fits : (c : tie.Start) → SFits w32 c.args.time.whole
+whole_fits : (c : goal.Start) → SFits w32 c.args.time.whole
 whole_fits c = search rules
 
-micros_fits : (c : tie.Start) → SFits w32 c.args.time.micros
+micros_fits : (c : goal.After-struct_told-2-1) → SFits w32 c.args.time.micros
 micros_fits c = search rules
 
 pub overflow_cast-whole : goal.overflow_cast-whole
 overflow_cast-whole c = sfits_widen tt (reread (whole_fits c.before.before.before))
 
 pub overflow_cast-micros : goal.overflow_cast-micros
-overflow_cast-micros c = sfits_widen tt (reread (micros_fits c.before.before.before.before.before))
+overflow_cast-micros c = sfits_widen tt (reread (micros_fits c))
 
 pub overflow_mul-result : goal.overflow_mul-result
 overflow_mul-result c = simp (kept _ (whole_fits c.before.before.before.before.before)) (in_width w64 tt (product _ (whole_fits c.before.before.before.before.before)))
@@ -37,11 +36,11 @@ overflow_mul-result c = simp (kept _ (whole_fits c.before.before.before.before.b
 pub overflow_add-result : goal.overflow_add-result
 overflow_add-result c =
     let w = whole_fits c.before.before.before.before.before in
-    let m = micros_fits c.before.before.before.before.before in
+    let m = micros_fits c in
     simp (kept _ w, kept _ m, exact w64 tt (product _ w)) (in_width w64 tt (total _ _ w m))
 
 pub returns : goal.returns
 returns c =
     let w = whole_fits c.before.before.before.before.before in
-    let m = micros_fits c.before.before.before.before.before in
+    let m = micros_fits c in
     simp (kept _ w, kept _ m, exact w64 tt (product _ w), exact w64 tt (total _ _ w m))

@@ -16,7 +16,7 @@ returns-then-shot-gt-SHOTS c = simp (le-leb 1 _ c.if-shot-lt1.false, lt-leb _ 20
 pub returns : goal.returns
 unfolding refuse◌unless◌else◌ say flags_of
 returns c =
-    let e = c.before.before.before.before in
+    let e = c in
     simp (
       le-leb 1 _ e.if-shot-lt1.false,
       le-leb _ 20 e.if-shot-gt-SHOTS.false,

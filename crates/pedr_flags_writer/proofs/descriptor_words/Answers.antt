@@ -6,10 +6,9 @@ use lib.ListN.{length}
 use Rattle.pedr_flags_writer.proofs.Descriptor.{high_word, two_words}
 use borrow.Author.Rules.{rules}
 use Rattle.pedr_flags_writer.proofs.descriptor_words.Goals as goal
-use Rattle.pedr_flags_writer.proofs.descriptor_words.Tie as tie
 
 -- the array's length, by its type
-shots : (s : tie.Start) → length s.args.failures ≡ 20
+shots : (s : goal.Start) → length s.args.failures ≡ 20
 shots s = search rules
 
 pub overflow_mul-result-2 : goal.overflow_mul-result-2
@@ -35,7 +34,7 @@ overflow_add-result-5 c = omega arith
 
 pub returns : goal.returns
 returns c =
-    let s = c.before.before.before.before.before.before.before.before.before in
+    let s = c in
     let d = s.args.descriptor in
     let fs = s.args.failures in
     let high : c.shot_words-shots.result.high + d.carried % 2 ^ 24 * 2 ^ 40 ≡ high_word d fs (shots s) =

@@ -10,15 +10,14 @@ use Rattle.pedr_flags.specs.declared.ShotFailures.{ShotFailures}
 use Rattle.pedr_flags_writer.proofs.Shots.{none, column, column_all, column_none, column_more, column_lt}
 use borrow.Author.Rules.{rules}
 use Rattle.pedr_flags_writer.proofs.shot_words.Goals as goal
-use Rattle.pedr_flags_writer.proofs.shot_words.Tie as tie
 
 -- the array's length, by its type
-shots : (s : tie.Start goal.the-invariant-loop-k goal.the-decreases-loop-k) → length s.args.t1 ≡ 20
+shots : (s : goal.Start) → length s.args.t1 ≡ 20
 shots s = search rules
 
 pub loop-k-init : goal.loop-k-init
 loop-k-init c =
-    let n : (g : ShotFailures → Bool) → column g c.args.t1 20 ≡ 0 = λ g. column_none g c.args.t1 20 (omega (arith, shots c.before)) in
+    let n : (g : ShotFailures → Bool) → column g c.args.t1 20 ≡ 0 = λ g. column_none g c.args.t1 20 (omega (arith, shots c)) in
     omega (arith, n (λ f. f.window), n (λ f. f.comparison), n (λ f. f.power), n (λ f. f.energy), n (λ f. f.range))
 
 pub overflow_sub-k : goal.overflow_sub-k
@@ -65,7 +64,7 @@ loop-k-smaller c = omega arith
 
 pub loop-k-preserved : goal.loop-k-preserved
 loop-k-preserved c =
-    let a = c.before.before.before.before.before.before.before.before.before in
+    let a = c in
     let k = c.loop-k.k in
     let l = shots a in
     let h = c.loop-k-test.true in

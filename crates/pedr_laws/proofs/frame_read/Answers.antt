@@ -17,14 +17,14 @@ use Rattle.pedr_laws.proofs.frame_read.Goals as goal
 
 pub returns-in_default : goal.returns-in_default
 returns-in_default c =
-    let r = c.before.before.before in
+    let r = c in
     let s : List ℕ = r.args.bytes.now in
     let q = refusal_said {A = RecordFields × Block} _ _ (fields_of s, block_of s) (sym (ap record_said c.enum_told-1.given.1) ∙ r.read_record-read.ensures.0) in
     after_refused _ _ (value s frame_index) 0 q.0 (λ z. q.1 (sym q.0 ∙ z))
 
 pub returns : goal.returns
 returns c =
-    let k = c.before.before.before in
+    let k = c in
     let r = k.before.before in
     let s : List ℕ = r.args.bytes.now in
     let q = answer_said {A = RecordFields × Block} _ (fields_of s, block_of s) _ (sym (ap record_said k.answer-1.given.1) ∙ r.read_record-read.ensures.0) in

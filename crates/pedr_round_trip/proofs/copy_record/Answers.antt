@@ -30,7 +30,7 @@ returns-in_default c =
 
 pub returns : goal.returns
 returns c =
-    let k = c.before.before.before.before.before.before.before.before.before.before in
+    let k = c in
     let a = k.args in
     let s : List ℕ = a.bytes.now in
     let out : List ℕ = a.out.now in

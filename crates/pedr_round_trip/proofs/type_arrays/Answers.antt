@@ -7,7 +7,7 @@ use Rattle.pedr_round_trip.proofs.type_arrays.Goals as goal
 
 pub returns : goal.returns
 returns c =
-    let s = c.before.before.before.before.before.before in
+    let s = c in
     let a = s.args.arrays in
     let good = s.well_formed.0 in
     let shots = good.1.1.0 in

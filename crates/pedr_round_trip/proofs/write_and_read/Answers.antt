@@ -19,7 +19,7 @@ use Rattle.pedr_round_trip.proofs.write_and_read.Goals as goal
 pub returns-in-Refused : goal.returns-in-Refused
 unfolding no_uninterpreted no_carried
 returns-in-Refused c =
-    let k = c.before.before.before.before.before.before.before.before in
+    let k = c in
     let a = k.args in
     let w = k.write_record-written.ensures in
     let q = refusal_said _ _ tt (sym (ap written_said c.written-1.given.1) ∙ w.0) in (
@@ -33,7 +33,7 @@ returns-in-Refused c =
 
 pub returns : goal.returns
 returns c =
-    let k = c.before.before.before.before.before.before.before in
+    let k = c in
     let a = k.before.before.before.before.before.before.before.before.args in
     let y : List ℕ = a.carried.now in
     let x : List ℕ = a.uninterpreted.now in

@@ -8,20 +8,19 @@ use Rattle.pedr_block.proofs.Frame.{carried_le}
 use Rattle.pedr_writer.specs.Write.{write_due, write_bytes}
 use borrow.Author.Rules.{rules}
 use Rattle.pedr_round_trip.proofs.write_given.Goals as goal
-use Rattle.pedr_round_trip.proofs.write_given.Tie as tie
 
 -- the array's length, by its type
-size : (s : tie.Start) → length s.args.t5 ≡ 10
+size : (s : goal.After-carried_count-n) → length s.args.t5 ≡ 10
 size s = search rules
 
 pub slice_bounds-write_record-end : goal.slice_bounds-write_record-end
 slice_bounds-write_record-end c =
-    let s = c.before.before.before in
+    let s = c in
     omega (arith, c.carried_count-n.ensures, carried_le s.args.block, size s)
 
 pub returns : goal.returns
 returns c =
-    let k = c.before.before.before.before.before.before.before.before in
+    let k = c in
     let a = k.before.before.args in
     let e : k.carried_count-n.result - 0 ≡ carried_count a.block = omega (arith, k.carried_count-n.ensures) in
     let w = c.write_record.ensures in (

@@ -7,15 +7,14 @@ use Rattle.pedr_segments.proofs.Fits.{gate_columns, gate_fits}
 use Rattle.layout.proofs.Store.{Puts, stop, ◌▸◌, puts_join}
 use borrow.Author.Rules.{rules}
 use Rattle.pedr_segments.proofs.put_gate.Goals as goal
-use Rattle.pedr_segments.proofs.put_gate.Tie as tie
 
 -- the arrays' lengths, by their types
-lengths : (s : tie.Start) → (length s.args.t2 ≡ 8) × (length s.args.t3 ≡ 8)
+lengths : (s : goal.After-slice_known-5-1) → (length s.args.t2 ≡ 8) × (length s.args.t3 ≡ 8)
 lengths s = (search rules, search rules)
 
 pub returns : goal.returns
 returns c =
-    let s = c.before.before.before.before.before.before.before.before.before.before.before.before.before.before.before.before.before.before.before.before.before in
+    let s = c in
     let l = lengths s in
     let a : ChannelArrays = record { noise = s.args.t2; thresholds = s.args.t3 } in
     puts_join (gate_parts s.args.fields a) gate_columns 424 480 refl (gate_fits s.args.fields a l.0 l.1)

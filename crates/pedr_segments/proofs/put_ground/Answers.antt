@@ -11,13 +11,12 @@ use Rattle.pedr_segments.proofs.Stores.{pair_stored, run_stored}
 use Rattle.layout.proofs.Store.{stop, ◌▸◌, puts_join}
 use borrow.Author.Rules.{rules}
 use Rattle.pedr_segments.proofs.put_ground.Goals as goal
-use Rattle.pedr_segments.proofs.put_ground.Tie as tie
 
 -- the signed fields and the arrays' lengths, by their types
-fit : (s : tie.Start) → SFits w32 s.args.fields.position.ground_latitude × SFits w32 s.args.fields.position.ground_longitude
+fit : (s : goal.After-slice_known-6-1) → SFits w32 s.args.fields.position.ground_latitude × SFits w32 s.args.fields.position.ground_longitude
 fit s = let position = s.well_formed.0.1.1.1.0 in (search rules, search rules)
 
-lengths : (s : tie.Start) → (length s.args.arrays.xyz ≡ 3) × (length s.args.arrays.shots.laser_power ≡ 20) × (length s.args.arrays.shots.class ≡ 20)
+lengths : (s : goal.After-slice_known-6-1) → (length s.args.arrays.xyz ≡ 3) × (length s.args.arrays.shots.laser_power ≡ 20) × (length s.args.arrays.shots.class ≡ 20)
 lengths s =
     let shots = s.well_formed.1.0.1.1.0 in
     let power = shots.1.1.1.1.1.1.1.1.0 in
@@ -30,7 +29,7 @@ shape_of-out c = ap length (returns c) ∙ put_length _ _ _
 
 pub returns : goal.returns
 returns c =
-    let s = c.before.before.before.before.before.before.before.before.before.before.before.before.before.before.before.before.before.before.before.before.before.before.before.before.before.before.before.before.before.before.before.before in
+    let s = c in
     let f = fit s in
     let l = lengths s in
     puts_join (ground_parts s.args.fields s.args.arrays) ground_columns 324 424 refl (ground_fits s.args.fields s.args.arrays l.0 l.1 l.2)

@@ -11,10 +11,9 @@ use Rattle.pedr_segments.proofs.Stores.{quality_stored}
 use Rattle.layout.proofs.Store.{stop, ◌▸◌, puts_join}
 use borrow.Author.Rules.{rules}
 use Rattle.pedr_segments.proofs.put_head.Goals as goal
-use Rattle.pedr_segments.proofs.put_head.Tie as tie
 
 -- the signed fields, by their types
-fit : (s : tie.Start) → SFits w32 s.args.fields.time.whole × SFits w32 s.args.fields.time.micros
+fit : (s : goal.After-slice_known-9-1) → SFits w32 s.args.fields.time.whole × SFits w32 s.args.fields.time.micros
     × SFits w32 s.args.fields.position.latitude × SFits w32 s.args.fields.position.longitude
 fit s = (search rules, search rules, search rules, search rules)
 
@@ -23,7 +22,7 @@ shape_of-out c = ap length (returns c) ∙ put_length _ _ _
 
 pub returns : goal.returns
 returns c =
-    let s = c.before.before.before.before.before.before.before.before.before.before.before.before.before.before.before.before.before.before.before.before.before.before.before.before.before.before.before.before.before.before.before.before.before.before.before.before.before.before.before.before.before.before.before in
+    let s = c in
     let f = fit s in
     puts_join (head_parts s.args.fields) head_columns 0 32 refl (head_fits s.args.fields)
     (signed_stored w32 4 32 s.args.fields.time.whole _ _ _ f.0 c.write_i32.ensures

@@ -9,18 +9,17 @@ use Rattle.octets_writer.proofs.Signed.{signed_stored}
 use Rattle.layout.proofs.Store.{stop, ◌▸◌, puts_join}
 use borrow.Author.Rules.{rules}
 use Rattle.pedr_segments.proofs.put_link.Goals as goal
-use Rattle.pedr_segments.proofs.put_link.Tie as tie
 
 -- the signed fields and the array's length, by their types
-fit : (s : tie.Start) → SFits w32 s.args.fields.link.seconds × SFits w16 s.args.fields.link.millis
+fit : (s : goal.After-slice_known-5-1) → SFits w32 s.args.fields.link.seconds × SFits w16 s.args.fields.link.millis
 fit s = let link = s.well_formed.0.1.1.1.1.1.1.1.1.1.0 in (search rules, search rules)
 
-header : (s : tie.Start) → length s.args.t2 ≡ 2
+header : (s : goal.After-slice_known-5-1) → length s.args.t2 ≡ 2
 header s = search rules
 
 pub returns : goal.returns
 returns c =
-    let s = c.before.before.before.before.before.before.before.before.before.before.before.before.before.before.before.before.before.before.before.before.before.before in
+    let s = c in
     let f = fit s in
     puts_join (link_parts s.args.fields s.args.t2) link_columns 492 508 refl (link_fits s.args.fields s.args.t2 (header s))
     (c.write_u32s.ensures

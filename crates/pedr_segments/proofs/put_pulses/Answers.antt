@@ -6,16 +6,15 @@ use Rattle.pedr_segments.proofs.Fits.{pulse_columns, pulse_fits}
 use Rattle.layout.proofs.Store.{Puts, stop, ◌▸◌, puts_join}
 use borrow.Author.Rules.{rules}
 use Rattle.pedr_segments.proofs.put_pulses.Goals as goal
-use Rattle.pedr_segments.proofs.put_pulses.Tie as tie
 
 -- the arrays' lengths, by their types
-lengths : (s : tie.Start) → let a = s.args.shots in (length a.energy ≡ 20) × (length a.reflectivity ≡ 20) × (length a.trigger_channel ≡ 20)
+lengths : (s : goal.After-slice_known-6-1) → let a = s.args.shots in (length a.energy ≡ 20) × (length a.reflectivity ≡ 20) × (length a.trigger_channel ≡ 20)
     × (length a.pulse_width ≡ 20) × (length a.optical_width ≡ 20)
 lengths s = (search rules, search rules, search rules, search rules, search rules)
 
 pub returns : goal.returns
 returns c =
-    let s = c.before.before.before.before.before.before.before.before.before.before.before.before.before.before.before.before.before.before.before.before.before.before.before.before.before.before.before in
+    let s = c in
     let l = lengths s in
     puts_join (pulse_parts s.args.shots) pulse_columns 144 324 refl (pulse_fits s.args.shots l.0 l.1 l.2 l.3 l.4)
     (c.put_u16x20.ensures

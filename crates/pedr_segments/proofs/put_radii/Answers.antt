@@ -11,14 +11,13 @@ use Rattle.pedr_segments.proofs.Stores.{descriptor_stored}
 use Rattle.layout.proofs.Store.{stop, ◌▸◌, puts_join}
 use borrow.Author.Rules.{rules}
 use Rattle.pedr_segments.proofs.put_radii.Goals as goal
-use Rattle.pedr_segments.proofs.put_radii.Tie as tie
 
 -- the signed fields and the array's length, by their types
-fit : (s : tie.Start) → SFits w32 s.args.fields.pointing.right_ascension × SFits w32 s.args.fields.pointing.declination
+fit : (s : goal.After-slice_known-8-1) → SFits w32 s.args.fields.pointing.right_ascension × SFits w32 s.args.fields.pointing.declination
     × SFits w32 s.args.fields.pointing.twist
 fit s = let pointing = s.well_formed.0.1.1.1.1.1.1.0 in (search rules, search rules, search rules)
 
-twenty : (s : tie.Start) → length s.args.shots.radius ≡ 20
+twenty : (s : goal.After-slice_known-8-1) → length s.args.shots.radius ≡ 20
 twenty s = let radius = s.well_formed.1.0.1.1.0 in search rules
 
 pub shape_of-out : goal.shape_of-out
@@ -26,7 +25,7 @@ shape_of-out c = ap length (returns c) ∙ put_length _ _ _
 
 pub returns : goal.returns
 returns c =
-    let s = c.before.before.before.before.before.before.before.before.before.before.before.before.before.before.before.before.before.before.before.before.before.before.before.before.before.before.before.before.before.before.before.before.before.before.before.before.before.before.before in
+    let s = c in
     let f = fit s in
     let w = c.descriptor_words-words.ensures in
     puts_join (radii_parts s.args.fields s.args.shots) radii_columns 32 144 refl (radii_fits s.args.fields s.args.shots (twenty s))

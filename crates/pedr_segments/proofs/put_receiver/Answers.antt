@@ -9,7 +9,7 @@ use Rattle.pedr_segments.proofs.put_receiver.Goals as goal
 
 pub returns : goal.returns
 returns c =
-    let s = c.before.before.before.before.before.before.before.before.before.before.before.before.before.before.before.before.before.before.before.before.before.before.before.before.before.before.before in
+    let s = c in
     puts_join (receiver_parts s.args.fields) receiver_columns 480 492 refl (receiver_fits s.args.fields)
     (c.write_u16.ensures
     ▸ c.write_u16-2.ensures

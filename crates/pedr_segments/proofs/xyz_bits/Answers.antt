@@ -10,7 +10,6 @@ use borrow.Author.Rules.{rules}
 use mir.Syntax.{w32}
 use mir.ValLaws.{to_z-of_z}
 use Rattle.pedr_segments.proofs.xyz_bits.Goals as goal
-use Rattle.pedr_segments.proofs.xyz_bits.Tie as tie
 
 three : (f : ℤ → ℕ) (xs : List ℤ) (a b c : ℕ) → length xs ≡ 3 → a ≡ f (get_or xs 0 (pos 0)) → b ≡ f (get_or xs 1 (pos 0)) → c ≡ f (get_or xs 2 (pos 0))
     → a ∷ b ∷ c ∷ [] ≡ map f xs
@@ -21,12 +20,12 @@ three f (x ∷ y ∷ z ∷ []) a b c l p q r = λ i. p i ∷ q i ∷ r i ∷ []
 three f (x ∷ y ∷ z ∷ u ∷ xs) a b c l p q r = absurd (omega arith)
 
 -- the array's length, by its type
-length_is : (s : tie.Start) → length s.args.t1 ≡ 3
+length_is : (s : goal.Start) → length s.args.t1 ≡ 3
 length_is s = search rules
 
 pub returns : goal.returns
 returns c =
-    let s = c.before.before.before.before.before.before.before in
+    let s = c in
     let xs = s.args.t1 in
     let x = to_z-of_z w32 (get_or xs 0 (pos 0)) (record { sfits = c.i32_bits-arg-1.given }) in
     let y = to_z-of_z w32 (get_or xs 1 (pos 0)) (record { sfits = c.i32_bits-arg-2-1.given }) in

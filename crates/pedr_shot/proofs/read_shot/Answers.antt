@@ -10,7 +10,6 @@ use Rattle.pedr_check.specs.Refusal.{record_refusal}
 use Rattle.pedr_shot.specs.Shot.{shot_of, shot_refusal}
 use borrow.Author.Rules.{rules}
 use Rattle.pedr_shot.proofs.read_shot.Goals as goal
-use Rattle.pedr_shot.proofs.read_shot.Tie as tie
 
 -- flags are answered for a shot that is 1 to 20
 there_is : (s : List ℕ) (k : ℕ) (f : ShotFlags) → answered f ≡ flags_due s k → (1 ≤ k) × (k ≤ 20) × (f ≡ flags_of s k)
@@ -20,7 +19,7 @@ there_is s k f e =
     (w.0, w.1, q.1)
 
 -- the record isn't refused
-accepted : (c : tie.After-read_shot_flags) → record_refusal c.args.bytes.now ≡ 0
+accepted : (c : goal.After-read_shot_flags) → record_refusal c.args.bytes.now ≡ 0
 accepted c = sym c.record_refusal-n.ensures ∙ c.if-n-ne0.false
 
 pub returns-then-n-ne0 : goal.returns-then-n-ne0
@@ -35,7 +34,7 @@ read_fields-requires c = there_is _ _ _ (ap flags_said (sym c.flags-1.given.1) �
 pub returns-in-Refused : goal.returns-in-Refused
 unfolding shot_refusal
 returns-in-Refused c =
-    let b = c.before.before.before.before in
+    let b = c in
     let a = b.args in
     let q = refusal_said _ _ (flags_of a.bytes.now a.shot) (ap flags_said (sym c.n-1.given.1) ∙ b.read_shot_flags.ensures) in
     say_refused _ _ (shot_of a.bytes.now a.shot) (then_pass _ _ _ (accepted b) q.0) (λ e. q.1 (sym q.0 ∙ e))
@@ -43,7 +42,7 @@ returns-in-Refused c =
 pub returns-in-Accepted : goal.returns-in-Accepted
 unfolding shot_refusal
 returns-in-Accepted c =
-    let b = c.before.before.before.before.before in
+    let b = c in
     let a = b.args in
     let q = answer_said _ (flags_of a.bytes.now a.shot) _ (ap flags_said (sym c.flags-1.given.1) ∙ b.read_shot_flags.ensures) in
     say_answered _ (shot_of a.bytes.now a.shot) _ (sym (then_pass _ _ 0 (accepted b) (sym q.0))) c.read_fields.ensures

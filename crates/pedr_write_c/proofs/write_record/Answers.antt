@@ -10,7 +10,7 @@ use Rattle.pedr_write_c.proofs.write_record.Goals as goal
 
 pub returns-in-Refused : goal.returns-in-Refused
 returns-in-Refused c =
-    let k = c.before.before.before.before.before.before in
+    let k = c in
     let a = k.args in
     let w = k.write_record-written.ensures in
     let e = k.arrays_of-arrays_given.ensures in
@@ -22,7 +22,7 @@ returns-in-Refused c =
 
 pub returns-in-Written : goal.returns-in-Written
 returns-in-Written c =
-    let k = c.before.before.before.before.before in
+    let k = c in
     let a = k.args in
     let w = k.write_record-written.ensures in
     let e = k.arrays_of-arrays_given.ensures in

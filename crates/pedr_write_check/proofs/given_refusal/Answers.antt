@@ -12,38 +12,37 @@ use Rattle.pedr_check.specs.Refusal.{values_refusal}
 use Rattle.pedr_codes.specs.Codes.{is_proper_shot, has_two_bits}
 use Rattle.pedr_write_check.specs.Refusal.{given_refusal}
 use Rattle.pedr_write_check.proofs.given_refusal.Goals as goal
-use Rattle.pedr_write_check.proofs.given_refusal.Tie as tie
 
 -- the two signed fields, by their types
-fit : (s : tie.Start) → SFits w32 s.args.fields.time.micros × SFits w32 s.args.fields.position.latitude
+fit : (s : goal.Start) → SFits w32 s.args.fields.time.micros × SFits w32 s.args.fields.position.latitude
 fit s = (search rules, search rules)
 
 -- the values' own ladder
-abbrev start : tie.After-values_refusal-n → tie.Start
+abbrev start : goal.After-values_refusal-n → goal.Start
 start c = c.before.before.before.before.before.before
 
-values : (c : tie.After-values_refusal-n)
+values : (c : goal.Then-n-ne0)
     → c.values_refusal-n.result ≡ values_refusal (start c).args.fields.time.micros (start c).args.fields.position.latitude (start c).args.fields.receiver.frame_index
 values c =
     let f = fit (start c) in
     c.values_refusal-n.ensures ∙ (λ i. values_refusal (to_z-of_z w32 _ f.0 i) (to_z-of_z w32 _ f.1 i) (start c).args.fields.receiver.frame_index)
 
 -- past the first test the values are not refused
-valued : (c : tie.Else-n-ne0) → values_refusal (start c.before).args.fields.time.micros (start c.before).args.fields.position.latitude
+valued : (c : goal.Else-n-ne0) → values_refusal (start c.before).args.fields.time.micros (start c.before).args.fields.position.latitude
     (start c.before).args.fields.receiver.frame_index ≡ 0
 valued c = sym (values c.before) ∙ c.if-n-ne0.false
 
 -- past the second each class is proper
-proper : (c : tie.Else-not-are_proper) → each is_proper_shot (start c.before.before.before.before.before).args.arrays.shots.class ≡ true
+proper : (c : goal.Else-not-are_proper) → each is_proper_shot (start c.before.before.before.before.before).args.arrays.shots.class ≡ true
 proper c = sym c.are_proper.ensures ∙ not-false _ c.if-not-are_proper.false
 
 -- past the sixth each part of an encoder byte has two bits
-two_bits : (c : tie.Else-not-have_two_bits) → each has_two_bits (start c.before.before.before.before.before.before.before.before.before.before.before.before.before.before.before.before).args.arrays.shots.encoder ≡ true
+two_bits : (c : goal.Else-not-have_two_bits) → each has_two_bits (start c.before.before.before.before.before.before.before.before.before.before.before.before.before.before.before.before).args.arrays.shots.encoder ≡ true
 two_bits c = sym c.have_two_bits.ensures ∙ not-false _ c.if-not-have_two_bits.false
 
 pub returns-then-n-ne0 : goal.returns-then-n-ne0
 unfolding given_refusal
-returns-then-n-ne0 c = let v = values c.before.before in search rungs depth 10
+returns-then-n-ne0 c = let v = values c in search rungs depth 10
 
 pub returns-then-not-are_proper : goal.returns-then-not-are_proper
 unfolding given_refusal
@@ -86,5 +85,5 @@ unfolding given_refusal
 returns c =
     let v = valued c.before.before.before.before.before.before.before.before.before.before.before.before.before.before.before.before in
     let p = proper c.before.before.before.before.before.before.before.before.before.before.before.before in
-    let t = two_bits c.before in
+    let t = two_bits c in
     search (pass, rungs) depth 15

@@ -8,10 +8,9 @@ use Rattle.pedr_segments.proofs.Fits.{Sizes}
 use Rattle.pedr_writer.proofs.Whole.{whole, record_length}
 use borrow.Author.Rules.{rules}
 use Rattle.pedr_writer.proofs.put_record.Goals as goal
-use Rattle.pedr_writer.proofs.put_record.Tie as tie
 
 -- the lengths of the arrays, by their types
-sizes : (s : tie.Start) → Sizes s.args.arrays
+sizes : (s : goal.After-slice_known-10-1) → Sizes s.args.arrays
 sizes s =
     let a = s.args.arrays in
     let good = s.well_formed.1.1.0 in
@@ -39,7 +38,7 @@ sizes s =
     }
 
 -- the block's length, by the types of its runs
-block_size : (s : tie.Start) → length (block_octets s.args.block s.args.runs s.args.carried.now) ≡ 28
+block_size : (s : goal.After-slice_known-10-1) → length (block_octets s.args.block s.args.runs s.args.carried.now) ≡ 28
 block_size s =
     let good = s.well_formed.1.1.1.0 in
     block_length s.args.block s.args.runs s.args.carried.now (record {
@@ -56,7 +55,7 @@ put_tail-requires c = c.requires.0
 
 pub shape_of-out : goal.shape_of-out
 shape_of-out c =
-    let s = c.before.before.before.before.before.before.before.before.before.before.before.before.before.before.before.before.before.before.before.before.before.before.before.before.before.before.before.before.before.before.before.before.before.before.before.before.before.before.before.before.before.before.before.before.before.before in
+    let s = c in
     let a = s.args in
     ap length (returns c)
     ∙ record_length a.fields a.block a.arrays a.runs a.carried.now a.uninterpreted.now (sizes s) (block_size s) s.requires.0
@@ -64,7 +63,7 @@ shape_of-out c =
 
 pub returns : goal.returns
 returns c =
-    let s = c.before.before.before.before.before.before.before.before.before.before.before.before.before.before.before.before.before.before.before.before.before.before.before.before.before.before.before.before.before.before.before.before.before.before.before.before.before.before.before.before.before.before.before.before.before.before in
+    let s = c in
     let a = s.args in
     whole a.fields a.block a.arrays a.runs a.carried.now a.uninterpreted.now (sizes s) (block_size s) s.requires.0 a.out.now _ s.requires.1
     (c.put_head.ensures

@@ -8,15 +8,14 @@ use Rattle.pedr_segments.proofs.Stores.{front_copied, rest_copied, run_stored}
 use Rattle.layout.proofs.Store.{stop, ◌▸◌, puts_join}
 use borrow.Author.Rules.{rules}
 use Rattle.pedr_writer.proofs.put_tail.Goals as goal
-use Rattle.pedr_writer.proofs.put_tail.Tie as tie
 
 -- the array's length, by its type
-shots : (s : tie.Start) → length s.args.encoders ≡ 20
+shots : (s : goal.After-slice_known-4-1) → length s.args.encoders ≡ 20
 shots s = search rules
 
 pub returns : goal.returns
 returns c =
-    let s = c.before.before.before.before.before.before.before.before.before.before.before.before.before.before.before.before.before in
+    let s = c in
     let x = s.args.uninterpreted.now in
     puts_join (tail_parts s.args.encoders x) tail_columns 536 776 refl (tail_fits s.args.encoders x (shots s) s.requires)
     (front_copied x _ _ 536 84 (omega (arith, s.requires)) c.copy_part.ensures

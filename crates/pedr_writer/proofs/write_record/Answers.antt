@@ -6,10 +6,9 @@ use Rattle.pedr_write_refusal.proofs.Accept.{Writable, writable}
 use Rattle.pedr_writer.specs.Record.{record_of}
 use borrow.Author.Rules.{rules}
 use Rattle.pedr_writer.proofs.write_record.Goals as goal
-use Rattle.pedr_writer.proofs.write_record.Tie as tie
 
 -- past the test the writer may write
-may : (c : tie.Else-n-ne0) → let a = c.before.before.before.before.before.before.args in
+may : (c : goal.After-put_record-arg-1) → let a = c.before.before.before.before.before.before.args in
     Writable a.fields a.block a.arrays a.carried.now a.uninterpreted.now × (length a.out.now ≡ 776)
 may c = writable _ _ _ _ _ _ (sym c.write_refusal-n.ensures ∙ c.if-n-ne0.false)
 
@@ -21,11 +20,11 @@ returns-then-n-ne0 c =
     (say_refused _ _ tt e c.if-n-ne0.true, after_refused _ _ r a.out.now e c.if-n-ne0.true)
 
 pub put_record-requires : goal.put_record-requires
-put_record-requires c = let m = may c.before.before in (m.0.bytes, m.1)
+put_record-requires c = let m = may c in (m.0.bytes, m.1)
 
 pub returns : goal.returns
 returns c =
-    let e = c.before.before.before.before.before in
+    let e = c in
     let a = e.before.before.before.before.before.before.args in
     let z = sym e.write_refusal-n.ensures ∙ e.if-n-ne0.false in
     let r = record_of a.fields a.block a.arrays a.runs a.carried.now a.uninterpreted.now in

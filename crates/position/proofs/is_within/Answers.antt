@@ -9,9 +9,8 @@ use Rattle.numbers.proofs.Integers.{abs_above, abs_below}
 use Rattle.numbers.proofs.Ranges.{Range, of_nat, of_unsigned, of_difference, in_width, exact, widened}
 use borrow.Author.Rules.{rules}
 use Rattle.position.proofs.is_within.Goals as goal
-use Rattle.position.proofs.is_within.Tie as tie
 
-module _ (a : tie.Start) where
+module _ (a : goal.Start) where
   lowest : Range 4294967296 (pos 0 -ℤ pos a.args.most)
   lowest = of_difference (of_nat 0 0 (omega arith)) (of_unsigned a.ranges.most)
 
@@ -23,14 +22,14 @@ module _ (a : tie.Start) where
   x_is = to_z-of_z w64 _ a.«?fits?».x
 
 pub overflow_sub-far : goal.overflow_sub-far
-overflow_sub-far c = simp (far_is c.before) (in_width w64 tt (lowest c.before))
+overflow_sub-far c = simp (far_is c) (in_width w64 tt (lowest c))
 
 pub returns-then-far-x : goal.returns-then-far-x
 returns-then-far-x c =
-    let a = c.before.before in
+    let a = c in
     simp (x_is a, far_is a) (abs_above a.args.x a.args.most (simp (x_is a, far_is a, exact w64 tt (lowest a)) at c.if-far-x.true))
 
 pub returns-else-far-x : goal.returns-else-far-x
 returns-else-far-x c =
-    let a = c.before.before in
+    let a = c in
     c.if-far-x.false ∙ sym (abs_below a.args.x a.args.most (simp (x_is a, far_is a, exact w64 tt (lowest a)) at c.if-far-x.false))

@@ -11,11 +11,10 @@ use Rattle.octets.proofs.Ladder.{pass, fail, say_refused, say_answered}
 use Rattle.position.specs.Position.{position}
 use borrow.Author.Rules.{rules}
 use Rattle.position.proofs.locate.Goals as goal
-use Rattle.position.proofs.locate.Tie as tie
 
 -- the numbers of the computation, and their ranges
-module _ (k : tie.After-struct_known-1) where
-  abbrev a : tie.Start
+module _ (k : goal.After-struct_known-1) where
+  abbrev a : goal.Start
   a = k.before
 
   abbrev counted : ℤ
@@ -74,18 +73,18 @@ module _ (k : tie.After-struct_known-1) where
   tolerance_is = widened w64 tt a.fits.tolerance
 
 -- what `rounds` gave
-rounds_is : (c : tie.After-rounds) → to_z w64 (of_z w64 c.rounds.result) ≡ shr_z (rest c.before.before) 229376
+rounds_is : (c : goal.After-rounds) → to_z w64 (of_z w64 c.rounds.result) ≡ shr_z (rest c.before.before) 229376
 rounds_is c =
-    let k = c.before.before in
+    let k = c in
     held w64 c.rounds.type_inv c.rounds.ensures
     ∙ simp (elapsed_is k, tolerance_is k, counted_is k, exact w64 tt (late_range k), exact w64 tt (due_range k), exact w64 tt (rest_range k))
 
 -- what `is_within` gave
 near_is :
-    (c : tie.After-is_within)
+    (c : goal.After-is_within)
     → c.is_within.result ≡ leb (nat_abs (apart c.before.before.before)) c.args.tolerance
 near_is c =
-    let k = c.before.before.before in
+    let k = c in
     c.is_within.ensures
     ∙ simp (
       rounds_is c.before,
@@ -98,52 +97,52 @@ near_is c =
     )
 
 pub overflow_sub-counted : goal.overflow_sub-counted
-overflow_sub-counted c = simp (widened w64 tt c.ranges.count, widened w64 tt c.struct_known-1.given.0) (in_width w64 tt (counted_range c.before))
+overflow_sub-counted c = simp (widened w64 tt c.ranges.count, widened w64 tt c.struct_known-1.given.0) (in_width w64 tt (counted_range c))
 
 pub overflow_sub-elapsed : goal.overflow_sub-elapsed
 overflow_sub-elapsed c =
-    simp (widened w64 tt c.ranges.time, widened w64 tt c.struct_known-1.given.1.0) (in_width w64 tt (elapsed_range c.before.before))
+    simp (widened w64 tt c.ranges.time, widened w64 tt c.struct_known-1.given.1.0) (in_width w64 tt (elapsed_range (goal.at.overflow_sub-elapsed c).After-struct_known-1))
 
 pub overflow_add-elapsed : goal.overflow_add-elapsed
-overflow_add-elapsed c = simp (elapsed_is c.before.before, tolerance_is c.before.before) (in_width w64 tt (late_range c.before.before))
+overflow_add-elapsed c = simp (elapsed_is (goal.at.overflow_add-elapsed c).After-struct_known-1, tolerance_is (goal.at.overflow_add-elapsed c).After-struct_known-1) (in_width w64 tt (late_range (goal.at.overflow_add-elapsed c).After-struct_known-1))
 
 pub overflow_mul-counted : goal.overflow_mul-counted
-overflow_mul-counted c = simp (counted_is c.before.before) (in_width w64 tt (due_range c.before.before))
+overflow_mul-counted c = simp (counted_is (goal.at.overflow_mul-counted c).After-struct_known-1) (in_width w64 tt (due_range (goal.at.overflow_mul-counted c).After-struct_known-1))
 
 pub overflow_sub-elapsed-2 : goal.overflow_sub-elapsed-2
 overflow_sub-elapsed-2 c =
-    let k = c.before.before in
+    let k = c in
     simp (elapsed_is k, tolerance_is k, counted_is k, exact w64 tt (late_range k), exact w64 tt (due_range k)) (in_width w64 tt (rest_range k))
 
 pub overflow_mul-p : goal.overflow_mul-p
-overflow_mul-p c = simp (rounds_is c.before) (in_width w64 tt (rounds_range c.before.before.before))
+overflow_mul-p c = simp (rounds_is c) (in_width w64 tt (rounds_range (goal.at.overflow_mul-p c).After-struct_known-1))
 
 pub overflow_add-p : goal.overflow_add-p
 overflow_add-p c =
-    let k = c.before.before.before in
-    simp (rounds_is c.before, counted_is k, exact w64 tt (rounds_range k)) (in_width w64 tt (p_range k))
+    let k = c in
+    simp (rounds_is c, counted_is k, exact w64 tt (rounds_range k)) (in_width w64 tt (p_range k))
 
 pub overflow_mul-p-2 : goal.overflow_mul-p-2
 overflow_mul-p-2 c =
-    let k = c.before.before.before in
-    simp (rounds_is c.before, counted_is k, exact w64 tt (rounds_range k), exact w64 tt (p_range k)) (in_width w64 tt (p_due_range k))
+    let k = c in
+    simp (rounds_is c, counted_is k, exact w64 tt (rounds_range k), exact w64 tt (p_range k)) (in_width w64 tt (p_due_range k))
 
 pub overflow_sub-p : goal.overflow_sub-p
 overflow_sub-p c =
-    let k = c.before.before.before in
-    simp (rounds_is c.before, counted_is k, elapsed_is k, exact w64 tt (rounds_range k), exact w64 tt (p_range k), exact w64 tt (p_due_range k))
+    let k = c in
+    simp (rounds_is c, counted_is k, elapsed_is k, exact w64 tt (rounds_range k), exact w64 tt (p_range k), exact w64 tt (p_due_range k))
     (in_width w64 tt (apart_range k))
 
 pub returns-then-is_within : goal.returns-then-is_within
 unfolding position
 returns-then-is_within c =
-    let k = c.before.before.before.before.before in
+    let k = c in
     say_answered _ (p k) _
     (sym (pass (leb (nat_abs (apart k)) k.args.tolerance) 21 0 0 (sym (near_is c.before.before) ∙ c.if-is_within.true) refl))
-    (simp (rounds_is c.before.before.before, counted_is k, exact w64 tt (rounds_range k), exact w64 tt (p_range k)))
+    (simp (rounds_is (goal.at.returns-then-is_within c).After-rounds, counted_is k, exact w64 tt (rounds_range k), exact w64 tt (p_range k)))
 
 pub returns-else-is_within : goal.returns-else-is_within
 unfolding position
 returns-else-is_within c =
-    let k = c.before.before.before.before.before in
+    let k = c in
     say_refused 21 _ (p k) (fail (leb (nat_abs (apart k)) k.args.tolerance) 21 0 (sym (near_is c.before.before) ∙ c.if-is_within.false)) (λ z. omega arith)

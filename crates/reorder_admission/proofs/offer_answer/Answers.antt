@@ -17,13 +17,12 @@ use Rattle.reorder_session.proofs.Whole.{fit, unfit}
 use Rattle.reorder_admission.proofs.Handed.{handed_on}
 use borrow.Author.Rules.{rules}
 use Rattle.reorder_admission.proofs.offer_answer.Goals as goal
-use Rattle.reorder_admission.proofs.offer_answer.Tie as tie
 
 -- the session isn't broken, and the store has its size: the ladder goes on with the reader's number
-fits : (c : tie.Else-is_broken) → single.unfit c.args.session ≡ 0
+fits : (c : goal.Then-store_size-ne-STORE_SIZE) → single.unfit c.args.session ≡ 0
 fits c = fit _ (sym c.is_broken.ensures ∙ c.if-is_broken.false)
 
-ready : (c : tie.Else-store_size-ne-STORE_SIZE) (r : ℕ) → let k = c.before.before.before.before in
+ready : (c : goal.Else-store_size-ne-STORE_SIZE) (r : ℕ) → let k = c in
     r ≡ read_refusal k.args.packet.now k.args.session.sum_word
     → r ≡ offer_refusal single k.args.session k.args.store_size k.args.packet.now
 unfolding offer_refusal
@@ -35,13 +34,13 @@ returns-then-is_broken c = refusing_now 30 _ _ (then_fail _ _ 30 (unfit _ (sym c
 
 pub returns-then-store_size-ne-STORE_SIZE : goal.returns-then-store_size-ne-STORE_SIZE
 unfolding offer_refusal offer_due
-returns-then-store_size-ne-STORE_SIZE c = refusing_now 27 _ _ (then_pass _ _ 27 (fits c.before.before) (fail_eq _ _ 27 _ c.if-store_size-ne-STORE_SIZE.true)) (λ q. omega arith)
+returns-then-store_size-ne-STORE_SIZE c = refusing_now 27 _ _ (then_pass _ _ 27 (fits c) (fail_eq _ _ 27 _ c.if-store_size-ne-STORE_SIZE.true)) (λ q. omega arith)
 
 pub returns-in_default : goal.returns-in_default
 unfolding offer_refusal offer_due
 returns-in_default c =
     let t = c.enum_told-1.given.1 in
-    let a = c.before.before.before.before in
+    let a = c in
     let h = handed_on _ _ _ _ (ap packet_said (sym t) ∙ a.read_answer-answer.ensures) (c.refusal_number.ensures ∙ ap (λ (x : PacketAnswer). refusal_in (packet_said x)) t) in
     refusing_now _ _ _ (ready a.before.before _ h.0) h.1
 
@@ -49,7 +48,7 @@ pub returns : goal.returns
 unfolding offer_refusal offer_due
 returns c =
     let t = c.answer-1.given.1 in
-    let a = c.before.before.before.before.before.before in
+    let a = c in
     let s = a.args.session in
     let b = a.args.packet.now in
     let r = answer_said (read_refusal b s.sum_word) (fields_of b) _ (ap packet_said (sym t) ∙ a.read_answer-answer.ensures) in

@@ -30,7 +30,7 @@ only_waiting waiting e = refl
 pub returns-then-n-waits : goal.returns-then-n-waits
 unfolding described_all
 returns-then-n-waits c =
-    let t = c.before.before.before in
+    let t = c in
     let a = t.args in
     let none = eqb t.drain_refusal-n.result 0 in
     let waits = t.waits.result in

@@ -16,25 +16,24 @@ use Rattle.reorder_c_answers.proofs.Told.{numbers_stay, numbers_listed, drain_to
 use Rattle.reorder_c.proofs.Window.{drain_windowed, with_its_window}
 use borrow.Author.Rules.{rules}
 use Rattle.reorder_c.proofs.drain_turns.Goals as goal
-use Rattle.reorder_c.proofs.drain_turns.Tie as tie
 
-abbrev start : tie.After-drained_count-count → tie.Start
+abbrev start : goal.After-drained_count-count → goal.Start
 start c = c.before.before.before.before.before.before.before.before.before.before
 
-abbrev by_value : tie.After-drained_count-count → tie.After-drain-drained
+abbrev by_value : goal.After-drained_count-count → goal.After-drain-drained
 by_value c = c.before.before.before.before.before.before
 
 -- what the report stands for
-abbrev due : tie.After-drained_count-count → Said (List Turn)
+abbrev due : goal.After-drained_count-count → Said (List Turn)
 due c = report_said (by_value c).drain.result.answer
 
-abbrev old : tie.After-drained_count-count → List ℕ
+abbrev old : goal.After-drained_count-count → List ℕ
 old c = (start c).args.descriptions.now
 
-count_is : (c : tie.After-drained_count-count) → drain_said (by_value c).drain.result.answer.answer ≡ counted (due c)
+count_is : (c : goal.After-drained_count-count) → drain_said (by_value c).drain.result.answer.answer ≡ counted (due c)
 count_is c = (by_value c).drain.ensures.1.count
 
-told : (c : tie.After-drained_count-count) (e : List ℕ) → e ≡ tabled (due c) (old c)
+told : (c : goal.After-drained_count-count) (e : List ℕ) → e ≡ tabled (due c) (old c)
     → let r = c.drained_count-count.result in
     Drains (start c).args.session (start c).args.out.now (start c).args.store.now (start c).args.budget
     (turns_said r e) c.with_window-after.result (by_value c).drain.new.1.0
@@ -51,12 +50,12 @@ told c e table =
 
 pub returns-in_default : goal.returns-in_default
 returns-in_default c =
-    let d = c.before.before.before in
+    let d = c in
     told d _ (numbers_stay (due d) (old d) _ (sym (count_is d) ∙ ap drain_said c.enum_told-in_default-1.given.1))
 
 pub returns : goal.returns
 returns c =
-    let d = c.before.before.before.before.before.before in
+    let d = c in
     let o = (by_value d).drain.ensures.1 in
     told d _
     (c.put_descriptions.ensures

@@ -7,24 +7,23 @@ use borrow.Author.Rules.{rules}
 use Rattle.octets.specs.Bytes.{put}
 use Rattle.reorder_c_answers.proofs.Listed.{Stored, stored_none, stored_more, stored_length, stored_all}
 use Rattle.reorder_c_answers.proofs.put_descriptions.Goals as goal
-use Rattle.reorder_c_answers.proofs.put_descriptions.Tie as tie
 
-room : (b : tie.At-loop-i goal.the-invariant-loop-i goal.the-decreases-loop-i) → length b.loop-i.numbers ≡ 64
+room : (b : goal.After-description-1) → length b.loop-i.numbers ≡ 64
 room b = stored_length b.args.t1 _ _ b.loop-i.i b.loop-i.invariant ∙ b.numbers-1.given.0.1
 
 pub loop-i-init : goal.loop-i-init
 loop-i-init c = stored_none c.args.t1 _
 
 pub bounds-numbers-i : goal.bounds-numbers-i
-bounds-numbers-i c = omega (arith, room c.before.before.before)
+bounds-numbers-i c = omega (arith, room c)
 
 pub bounds-numbers-i-in-loop-i : goal.bounds-numbers-i-in-loop-i
-bounds-numbers-i-in-loop-i c = simp length-set (omega (arith, room c.before.before.before))
+bounds-numbers-i-in-loop-i c = simp length-set (omega (arith, room c))
 
 pub loop-i-preserved : goal.loop-i-preserved
 unfolding put
 loop-i-preserved c =
-    let b = c.before.before.before in
+    let b = c in
     stored_more b.args.t1 _ b.loop-i.numbers b.loop-i.i c.loop-i-test.true (omega arith) b.loop-i.invariant
 
 pub returns : goal.returns

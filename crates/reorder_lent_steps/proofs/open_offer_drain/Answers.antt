@@ -7,5 +7,5 @@ pub returns : goal.returns
 returns c =
     let d = c.drain.ensures in
     let f = c.offer-offered.ensures in
-    let o = c.before.before.before.before.before.before.before.before.before.before.before.before in
+    let o = c in
     (short _ _ _ _ _ _ (from_none _ _ _ _ o.no_session.ensures o.«open».ensures) f d.0, d.1)

@@ -24,7 +24,7 @@ put_packet-requires c =
 pub returns : goal.returns
 unfolding offer_of
 returns c =
-    let w = c.before.before.before.before.before in
+    let w = c in
     let a = w.before.before.before in
     let e = ap offer_said (sym a.answer-1.given.1) ∙ a.offer_answer-answer.ensures in
     let s = a.args.session in

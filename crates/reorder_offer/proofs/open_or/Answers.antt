@@ -16,10 +16,9 @@ use Rattle.reorder_session.specs.Session.{with_window}
 use Rattle.reorder_admission.proofs.Handed.{handed_on}
 use borrow.Author.Rules.{rules}
 use Rattle.reorder_offer.proofs.open_or.Goals as goal
-use Rattle.reorder_offer.proofs.open_or.Tie as tie
 
 -- threshold and store are in order: the ladder goes on with the reader's number
-ready : (c : tie.Else-store-ne-STORE_SIZE) (r : ℕ) → let k = c.args in
+ready : (c : goal.Else-store-ne-STORE_SIZE) (r : ℕ) → let k = c.args in
     r ≡ read_refusal k.packet.now k.sum_word → r ≡ open_refusal (length k.store.now) k.packet.now k.threshold k.sum_word
 unfolding open_refusal
 ready c r e = search rungs depth 10
@@ -43,14 +42,14 @@ pub returns-in_default : goal.returns-in_default
 unfolding open_refusal open_due open_of
 returns-in_default c =
     let t = c.enum_told-1.given.1 in
-    let a = c.before.before.before.before in
+    let a = c in
     let h = handed_on _ _ _ _ (ap packet_said (sym t) ∙ a.read_answer-answer.ensures) (c.refusal_number.ensures ∙ ap (λ (x : PacketAnswer). refusal_in (packet_said x)) t) in
     stays _ _ _ _ _ _ (say_refused {A = ℕ} _ _ 0 (ready a.before _ h.0) h.1)
 
 pub put_packet-requires : goal.put_packet-requires
 put_packet-requires c =
     let t = c.answer-1.given.1 in
-    let a = c.before.before.before.before.before in
+    let a = c in
     let k = a.args in
     let r = answer_said (read_refusal k.packet.now k.sum_word) (fields_of k.packet.now) _ (ap packet_said (sym t) ∙ a.read_answer-answer.ensures) in
     (accepted k.packet.now k.sum_word r.0).size
@@ -58,7 +57,7 @@ put_packet-requires c =
 pub returns : goal.returns
 unfolding open_refusal open_due open_of
 returns c =
-    let w = c.before.before.before.before.before in
+    let w = c in
     let t = w.answer-1.given.1 in
     let a = w.before.before.before.before.before in
     let k = a.args in

@@ -13,7 +13,7 @@ slice_bounds-write_into-end c = sym (length-take-le 1080 c.before.before.before.
 
 pub returns : goal.returns
 returns c =
-    let k = c.before.before.before.before.before.before.before in
+    let k = c in
     let a = k.args in
     c.write_into.ensures
     ∙ ap (λ (b : List ℕ). put a.store.now a.at b) (take_all 1080 a.packet.now (omega (arith, k.requires)))

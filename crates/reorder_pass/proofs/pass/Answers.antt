@@ -13,9 +13,8 @@ use Rattle.reorder_session.specs.Session.{broken, with_window, single}
 use Rattle.reorder_session.proofs.Whole.{whole, fit, unfit}
 use borrow.Author.Rules.{rules}
 use Rattle.reorder_pass.proofs.pass.Goals as goal
-use Rattle.reorder_pass.proofs.pass.Tie as tie
 
-unbroken : (c : tie.Else-is_broken) → broken c.args.session ≡ false
+unbroken : (c : goal.Else-is_broken) → broken c.args.session ≡ false
 unbroken c = sym c.is_broken.ensures ∙ c.if-is_broken.false
 
 pub returns-then-is_broken : goal.returns-then-is_broken
@@ -34,7 +33,7 @@ returns-then-next-eq-END_POSITION c =
 pub returns-then-is_start_held : goal.returns-then-is_start_held
 unfolding pass_of pass_refusal
 returns-then-is_start_held c =
-    let k = c.before.before.before in
+    let k = c in
     let held = sym c.is_start_held.ensures ∙ c.if-is_start_held.true in
     let n : 26 ≡ pass_refusal single k.args.session =
     then_pass _ _ 26 (fit _ (unbroken k.before.before)) (pass _ 28 _ 26 (ap not (ne_eqb _ _ k.if-next-eq-END_POSITION.false)) (fail _ 26 _ (ap not held))) in
@@ -43,7 +42,7 @@ returns-then-is_start_held c =
 pub returns : goal.returns
 unfolding pass_of pass_refusal
 returns c =
-    let h = c.before.before.before.before in
+    let h = c in
     let k = h.before in
     let s = k.args.session in
     let free = sym h.is_start_held.ensures ∙ c.if-is_start_held.false in

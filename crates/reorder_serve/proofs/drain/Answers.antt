@@ -17,9 +17,8 @@ use Rattle.reorder_session.proofs.Whole.{whole_fit}
 use Rattle.reorder_serve.proofs.Reading.{reported}
 use borrow.Author.Rules.{rules}
 use Rattle.reorder_serve.proofs.drain.Goals as goal
-use Rattle.reorder_serve.proofs.drain.Tie as tie
 
-passes : (c : tie.Else-n-ne0) → let a = c.args in
+passes : (c : goal.Else-n-ne0) → let a = c.args in
     drain_refusal a.session (length a.store.now) (length a.out.now) a.budget ≡ 0
 passes c = sym c.drain_refusal-n.ensures ∙ c.if-n-ne0.false
 
@@ -41,7 +40,7 @@ unfolding drain_of
 returns c =
     let g = c.run in
     let r = g.ensures in
-    let p = c.before.before.before.before.before in
+    let p = c in
     let a = p.args in
     let ts = turns a.budget a.session in
     let k = leaves _ _ _ _ ts _ _ _ (say_answered _ ts _ (passes p) refl) r.1.1.0 r.1.1.1 in

@@ -16,7 +16,6 @@ use Rattle.reorder_session.specs.Session.{with_window, slot_start, single}
 use Rattle.reorder_session.specs.Calls.{turn, turned, shown}
 use borrow.Author.Rules.{rules}
 use Rattle.reorder_serve.proofs.step.Goals as goal
-use Rattle.reorder_serve.proofs.step.Tie as tie
 
 -- what serving once comes to, by its turn
 did : (s : Session) (i : ℕ) (store out : List ℕ) (t : Turn) (s' : Session) (out' : List ℕ) → turn s ≡ t → s' ≡ turned s t → out' ≡ shown s i store out t
@@ -26,12 +25,12 @@ did s i store out t s' out' e a b = (ap answered (sym e), (a ∙ ap (turned s) (
 part_is : (i n : ℕ) (s : List ℕ) → take ((i + n) - i) (drop i s) ≡ part s i n
 part_is i n s = let e : (i + n) - i ≡ n = omega arith in ap (λ (k : ℕ). take k (drop i s)) e
 
-free : (c : tie.Else-is_start_held) → let w = c.args.session.window in held_at w w.start ≡ false
+free : (c : goal.Else-is_start_held) → let w = c.args.session.window in held_at w w.start ≡ false
 free c = sym c.is_start_held.ensures ∙ c.if-is_start_held.false
 
 pub returns-then-is_start_held : goal.returns-then-is_start_held
 returns-then-is_start_held c =
-    let w = c.before.before.before.before.before in
+    let w = c in
     let t = w.before.before.before in
     let k = t.before.before.before.before.before in
     let a = k.args in
@@ -44,7 +43,7 @@ returns-then-is_start_held c =
 
 pub returns-then-is_held_ahead : goal.returns-then-is_held_ahead
 returns-then-is_held_ahead c =
-    let h = c.before.before.before.before in
+    let h = c in
     let k = h.before.before.before.before.before.before in
     let a = k.args in
     let s = a.session in
@@ -56,5 +55,5 @@ pub returns : goal.returns
 returns c =
     let a = c.args in
     did a.session a.i a.store.now a.out.now _ _ _
-    (turn_waiting single a.session (free c.before.before.before) (sym c.is_held_ahead.ensures ∙ c.if-is_held_ahead.false))
+    (turn_waiting single a.session (free (goal.at.returns c).Else-is_start_held) (sym c.is_held_ahead.ensures ∙ c.if-is_held_ahead.false))
     refl refl

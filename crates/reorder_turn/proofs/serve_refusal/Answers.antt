@@ -7,9 +7,8 @@ use Rattle.reorder_session.proofs.Whole.{fit, unfit}
 use Rattle.reorder_rules.specs.Serve.{serve_refusal}
 use borrow.Author.Rules.{rules}
 use Rattle.reorder_turn.proofs.serve_refusal.Goals as goal
-use Rattle.reorder_turn.proofs.serve_refusal.Tie as tie
 
-fits : (c : tie.Else-is_broken) → single.unfit c.args.session ≡ 0
+fits : (c : goal.Else-is_broken) → single.unfit c.args.session ≡ 0
 fits c = fit _ (sym c.is_broken.ensures ∙ c.if-is_broken.false)
 
 pub returns-then-is_broken : goal.returns-then-is_broken
