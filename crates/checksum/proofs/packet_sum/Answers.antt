@@ -10,4 +10,4 @@ pub returns : goal.returns
 returns c =
     let a = c.args in
     place_taken a.bytes.now a.sum_word _ _ _ c.word_sum-all.ensures c.u16_at.ensures (omega arith)
-    c.wrapping_sub_u16.ensures
+    c.wrapping_sub_u16.ensures.value

@@ -22,10 +22,10 @@ loop-i-preserved c =
     let s = c.args.bytes.now in (
       refl,
       omega arith,
-      omega (arith, c.wrapping_add_u16-sum.ensures),
+      omega (arith, c.wrapping_add_u16-sum.ensures.value),
       add_more _ _ l.sum c.halves.result _ _
           (low_pair s l.i (omega arith) ∙ ap (λ (v : ℕ). v + low_sum (drop (l.i + 2) s)) (sym c.halves.ensures))
-          c.wrapping_add_u16-sum.ensures l.invariant.3,
+          c.wrapping_add_u16-sum.ensures.value l.invariant.3,
     )
 
 pub returns : goal.returns
@@ -34,4 +34,4 @@ returns c =
     let s = c.args.bytes.now in
     let e : c.wide.result ≡ low_sum (drop l.i s) =
     c.wide.ensures.0 ∙ c.u8_at.ensures ∙ sym (low_last s l.i (omega arith)) in
-    c.wrapping_add_u16.ensures ∙ ap (λ (n : ℕ). (l.sum + n) % 65536) e ∙ l.invariant.3
+    c.wrapping_add_u16.ensures.value ∙ ap (λ (n : ℕ). (l.sum + n) % 65536) e ∙ l.invariant.3

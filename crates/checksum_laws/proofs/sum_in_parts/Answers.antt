@@ -18,6 +18,6 @@ returns c =
     let before = c.word_sum-before.ensures ∙ summed _ _ e.0 in
     let after = c.word_sum-after.ensures ∙ summed _ _ rest in
     let both : c.wrapping_add_u16.result ≡ (word_sum (take (a.word * 2) s) % 65536 + word_sum (drop (a.word * 2) s) % 65536) % 65536 =
-    c.wrapping_add_u16.ensures ∙ (λ i. (before i + after i) % 65536) in
+    c.wrapping_add_u16.ensures.value ∙ (λ i. (before i + after i) % 65536) in
     let whole = both ∙ parts_add s (a.word * 2) (omega arith) in
     λ i. record { before = before i; after = after i; whole = whole i }

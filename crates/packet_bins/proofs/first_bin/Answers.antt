@@ -5,4 +5,4 @@ use Rattle.packet_bins.proofs.first_bin.Goals as goal
 
 pub returns : goal.returns
 unfolding first_bin
-returns c = omega (arith, c.wrapping_add_u16-moved.ensures)
+returns c = omega (arith, c.wrapping_add_u16-moved.ensures.value)

@@ -4,6 +4,6 @@ use Rattle.window.proofs.free.Goals as goal
 
 pub returns : goal.returns
 returns c =
-    let e = c.wrapping_add_u32.ensures in
+    let e = c.wrapping_add_u32.ensures.value in
     let m = c.unmark.ensures in
     λ i. record { start = e i; marks = m i }
