@@ -19,11 +19,7 @@ all : (s : List ℕ) (word : ℕ) (f : PacketFields) (a : PacketArrays) → answ
 all s word f a e q = let r = answer_said (read_refusal s word) (fields_of s) f e in after_done _ (arrays_of s) no_arrays a r.0 q
 
 pub returns-in_default : goal.returns-in_default
-returns-in_default c =
-    let e = c.read_answer-answer.ensures in
-    (e, none _ _ _ (ap packet_said (sym c.enum_told-in_default-1.given.1) ∙ e))
+returns-in_default c = (c.read_answer-answer.ensures, none _ _ _ c.in_default.ensures)
 
 pub returns : goal.returns
-returns c =
-    let e = c.read_answer-answer.ensures in
-    (e, all _ _ _ _ (ap packet_said (sym c.enum_told-1.given.1) ∙ e) c.read_arrays.ensures)
+returns c = (c.read_answer-answer.ensures, all _ _ _ _ c.in-Accepted.ensures c.read_arrays.ensures)

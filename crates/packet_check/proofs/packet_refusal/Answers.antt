@@ -11,54 +11,43 @@ use Rattle.packet_check.specs.Header.{header_refusal}
 use Rattle.packet_check.specs.Refusal.{read_refusal}
 use Rattle.packet_check.proofs.packet_refusal.Goals as goal
 
--- a word that passed its test
-placed : (c : goal.Else-not-is_sum_word) → is_sum_word c.args.sum_word ≡ true
-placed c = sym c.is_sum_word.ensures ∙ not-false _ c.if-not-is_sum_word.false
-
--- a header that passed its own
-headed : (c : goal.Else-header-ne0) → header_refusal c.args.bytes.now ≡ 0
-headed c = sym c.header_refusal-header.ensures ∙ c.if-header-ne0.false
-
 pub returns-then-bytes-ne-PACKET_SIZE : goal.returns-then-bytes-ne-PACKET_SIZE
 unfolding read_refusal
 returns-then-bytes-ne-PACKET_SIZE c = search rungs depth 10
 
 pub returns-then-not-is_sum_word : goal.returns-then-not-is_sum_word
 unfolding read_refusal
-returns-then-not-is_sum_word c = let p = sym c.is_sum_word.ensures ∙ not-true _ c.if-not-is_sum_word.true in search (fail, rungs) depth 10
+returns-then-not-is_sum_word c = let p = sym c.is_sum_word.ensures ∙ c.if-not-is_sum_word.true in search (fail, rungs) depth 10
 
 pub returns-then-header-ne0 : goal.returns-then-header-ne0
 unfolding read_refusal
-returns-then-header-ne0 c = let p = placed (goal.at.returns-then-header-ne0 c).Else-not-is_sum_word in let h = c.header_refusal-header.ensures in search (pass, rungs) depth 10
+returns-then-header-ne0 c = let p : is_sum_word c.args.sum_word ≡ true = sym c.is_sum_word.ensures ∙ c.if-not-is_sum_word.false in let h = c.header_refusal-header.ensures in search (pass, rungs) depth 10
 
 pub returns-then-u8_at-ne0 : goal.returns-then-u8_at-ne0
 unfolding read_refusal
 returns-then-u8_at-ne0 c =
-    let e = c in
-    let p = placed e.before.before in
-    let h = headed e in
+    let p : is_sum_word c.args.sum_word ≡ true = sym c.is_sum_word.ensures ∙ c.if-not-is_sum_word.false in
+    let h : header_refusal c.args.bytes.now ≡ 0 = sym c.header_refusal-header.ensures ∙ c.if-header-ne0.false in
     rw (← c.u8_at.ensures) (search (pass, rungs) depth 10)
 
 pub overflow_mul-sum_word : goal.overflow_mul-sum_word
 overflow_mul-sum_word c =
-    let e = c in
-    let r = sum_word_range e.args.sum_word (placed e) in
+    let p : is_sum_word c.args.sum_word ≡ true = sym c.is_sum_word.ensures ∙ c.if-not-is_sum_word.false in
+    let r = sum_word_range c.args.sum_word p in
     omega (arith, r.1)
 
 pub returns-then-packet_sum-u16_at : goal.returns-then-packet_sum-u16_at
 unfolding read_refusal
 returns-then-packet_sum-u16_at c =
-    let e = c in
-    let p = placed e.before.before in
-    let h = headed e in
+    let p : is_sum_word c.args.sum_word ≡ true = sym c.is_sum_word.ensures ∙ c.if-not-is_sum_word.false in
+    let h : header_refusal c.args.bytes.now ≡ 0 = sym c.header_refusal-header.ensures ∙ c.if-header-ne0.false in
     rw (← c.u8_at.ensures, ← c.packet_sum.ensures, ← c.u16_at.ensures)
     (search (pass, rungs) depth 10)
 
 pub returns : goal.returns
 unfolding read_refusal
 returns c =
-    let e = c in
-    let p = placed e.before.before in
-    let h = headed e in
+    let p : is_sum_word c.args.sum_word ≡ true = sym c.is_sum_word.ensures ∙ c.if-not-is_sum_word.false in
+    let h : header_refusal c.args.bytes.now ≡ 0 = sym c.header_refusal-header.ensures ∙ c.if-header-ne0.false in
     rw (← c.u8_at.ensures, ← c.packet_sum.ensures, ← c.u16_at.ensures)
     (search (pass, rungs) depth 10)

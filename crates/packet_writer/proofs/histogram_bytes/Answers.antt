@@ -29,7 +29,7 @@ loop-k-smaller c = omega arith
 pub loop-k-preserved : goal.loop-k-preserved
 loop-k-preserved c =
     let l = c.loop-k in
-    let bins = c.args.t1 in
+    let bins = c.args.bins in
     let v = ap (λ (k : ℕ). get_or bins k 0) c.partner.ensures.0 in
     fill_more (λ k. get_or bins (bin_byte k - 56) 0) _ l.bytes l.k _ c.loop-k-test.true v l.invariant
 
@@ -37,4 +37,4 @@ pub returns : goal.returns
 unfolding histogram_of
 returns c =
     let l = c.loop-k in
-    fill_done (λ k. get_or c.args.t1 (bin_byte k - 56) 0) _ l.bytes l.k c.loop-k-test.false l.invariant
+    fill_done (λ k. get_or c.args.bins (bin_byte k - 56) 0) _ l.bytes l.k c.loop-k-test.false l.invariant

@@ -7,27 +7,23 @@ use Rattle.packet_writer.proofs.Accept.{Writable, writable, summed}
 use borrow.Author.Rules.{rules}
 use Rattle.packet_writer.proofs.write_packet.Goals as goal
 
--- past the test the writer may write
-may : (c : goal.Else-n-ne0) → let a = c.before.before.before.before.before.args in Writable a.fields a.carried.now a.sum_word a.out.now
-may c = writable _ _ _ _ (sym c.refusal-n.ensures ∙ c.if-n-ne0.false)
-
 pub returns-then-n-ne0 : goal.returns-then-n-ne0
 returns-then-n-ne0 c =
-    let a = c.before.before.before.before.before.args in
+    let a = c.args in
     let e = c.refusal-n.ensures in
     let p = packet_of a.fields a.arrays a.carried.now a.sum_word in
     (say_refused _ _ tt e c.if-n-ne0.true, after_refused _ _ p a.out.now e c.if-n-ne0.true)
 
 pub write_unsummed-requires : goal.write_unsummed-requires
-write_unsummed-requires c = let m = may c.before.before.before.before.before in (m.count, m.carries, m.room)
+write_unsummed-requires c = let m : Writable c.args.fields c.args.carried.now c.args.sum_word c.args.out.now = writable _ _ _ _ (sym c.refusal-n.ensures ∙ c.if-n-ne0.false) in (m.count, m.carries, m.room)
 
 pub overflow_mul-sum_word : goal.overflow_mul-sum_word
-overflow_mul-sum_word c = let m = may c.before.before.before.before.before.before.before.before.before.before.before.before in omega (arith, m.to)
+overflow_mul-sum_word c = let m : Writable c.args.fields c.args.carried.now c.args.sum_word c.args.out.now = writable _ _ _ _ (sym c.refusal-n.ensures ∙ c.if-n-ne0.false) in omega (arith, m.to)
 
 pub returns : goal.returns
 returns c =
     let e = c in
-    let a = e.before.before.before.before.before.args in
+    let a = e.args in
     let z = sym e.refusal-n.ensures ∙ e.if-n-ne0.false in
     let u = c.write_unsummed in
     let s = c.packet_sum in
@@ -36,6 +32,6 @@ returns c =
     let p = packet_of a.fields a.arrays a.carried.now a.sum_word in (
       say_answered _ tt tt z refl,
       after_done _ p a.out.now _ z
-          (summed a.fields a.arrays a.carried.now a.sum_word s.result u.new.1.1.1.1.1.0 v.result _
+          (summed a.fields a.arrays a.carried.now a.sum_word s.result u.new.out v.result _
           u.ensures s.ensures v.ensures o.ensures),
     )

@@ -7,7 +7,7 @@ use borrow.Author.Rules.{rules}
 use Rattle.packet_writer.proofs.write_unsummed.Goals as goal
 
 -- the arrays' lengths, by their types
-lengths : (s : goal.After-slice_known-8-1) → (length s.args.t2 ≡ 16) × (length s.args.t3 ≡ 14)
+lengths : (s : goal.After-slice_known-8-1) → (length s.args.temperatures ≡ 16) × (length s.args.readings ≡ 14)
 lengths s = (search rules, search rules)
 
 pub returns : goal.returns
@@ -26,9 +26,9 @@ returns c =
     let w5 = c.write_into-5 in
     let w6 = c.write_into-6 in
     let w7 = c.write_into-7 in
-    let arrays : PacketArrays = record { temperatures = a.t2; readings = a.t3; bins = a.bins } in
+    let arrays : PacketArrays = record { temperatures = a.temperatures; readings = a.readings; bins = a.bins } in
     seven a.f arrays a.carried.now a.out.now l.0 l.1 s.requires.1 s.requires.2
     h.result m.result k.result w.result
-    w1.new.1.1.0 w2.new.1.1.0 w3.new.1.1.0 w4.new.1.1.0 w5.new.1.1.0 w6.new.1.1.0 w7.new.1.1.0
+    w1.new.out w2.new.out w3.new.out w4.new.out w5.new.out w6.new.out w7.new.out
     h.ensures m.ensures k.ensures w.ensures
     w1.ensures w2.ensures w3.ensures w4.ensures w5.ensures w6.ensures w7.ensures
