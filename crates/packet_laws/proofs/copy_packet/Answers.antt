@@ -16,7 +16,7 @@ returns-in_default c =
     let a = c.args in
     let bs : List ℕ = a.bytes.now in
     let p = c.read_packet-read.ensures in
-    let q = refusal_said _ _ (fields_of bs) (sym (ap packet_said c.enum_told-1.given.1) ∙ p.0) in
+    let q = refusal_said _ _ (fields_of bs) (sym (ap packet_said c.in_default.is) ∙ p.0) in
     let r = c.refusal_number.ensures ∙ ap refusal_in p.0 ∙ number_say _ (fields_of bs) in
     let e = copy_refused bs a.sum_word a.out.now _ r (λ z. q.1 (sym r ∙ z)) in
     (say_refused _ _ tt e (λ z. q.1 (sym r ∙ z)), after_refused _ _ bs a.out.now e (λ z. q.1 (sym r ∙ z)))
@@ -27,7 +27,7 @@ returns c =
     let a = s.args in
     let bs : List ℕ = a.bytes.now in
     let p = c.read_packet-read.ensures in
-    let q = answer_said _ (fields_of bs) _ (sym (ap packet_said c.answer-1.given.1) ∙ p.0) in
+    let q = answer_said _ (fields_of bs) _ (sym (ap packet_said c.in-Accepted.is) ∙ p.0) in
     let eb = p.1 ∙ sym (after_done _ (arrays_of bs) no_arrays (arrays_of bs) q.0 refl) in
     let o : Octets bs = λ i. (c.shared_slice_known-1.given i).fits in
     let n = copy_number bs a.sum_word a.out.now o q.0 _ _ _ q.1 eb c.carried-carried.ensures in

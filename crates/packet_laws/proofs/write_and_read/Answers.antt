@@ -30,7 +30,7 @@ pub returns-in-Refused : goal.returns-in-Refused
 returns-in-Refused c =
     let a = c.args in
     let w = c.write_packet-written.ensures in
-    let q = refusal_said _ _ tt (sym (ap written_said c.written-1.given.1) ∙ w.0) in
+    let q = refusal_said _ _ tt (sym (ap written_said c.in-Refused.is) ∙ w.0) in
     (say_refused _ _ a.fields q.0 (λ z. q.1 (sym q.0 ∙ z)), after_refused _ _ a.arrays no_arrays q.0 (λ z. q.1 (sym q.0 ∙ z)), w.1)
 
 pub returns : goal.returns
@@ -38,7 +38,7 @@ returns c =
     let s = c in
     let a = s.args in
     let w = c.write_packet-written.ensures in
-    let q = answer_said _ tt _ (sym (ap written_said c.enum_told-1.given.1) ∙ w.0) in
+    let q = answer_said _ tt _ (sym (ap written_said c.in_default.is) ∙ w.0) in
     let p : List ℕ = packet_of a.fields a.arrays a.carried.now a.sum_word in
     let e = w.1 ∙ sym (after_done _ p a.out.now p q.0 refl) in
     let t = read_back a.fields a.arrays a.carried.now a.sum_word a.out.now (typed s) q.0 in
