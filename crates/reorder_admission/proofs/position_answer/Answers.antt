@@ -43,10 +43,10 @@ low c =
     let f : SFits w64 (at c.before.before.before) = fits_i64 c.before.before.before in
     simp (to_z-of_z w64, widened w64 tt c.struct_known-1.given.0) at c.if-p-window.false
 
-asked : (c : goal.After-is_held) → let k = c in c.«?is_held_lem?».result ≡ held_at (window k) (nat_abs (at k))
+asked : (c : goal.After-is_held) → let k = c in c.is_held.result ≡ held_at (window k) (nat_abs (at k))
 asked c =
     let k = c in
-    c.«?is_held_lem?».ensures ∙ ap (λ (x : ℤ). held_at (window k) (nat_abs x)) (to_z-of_z w64 (at k) (fits_i64 k))
+    c.is_held.ensures ∙ ap (λ (x : ℤ). held_at (window k) (nat_abs x)) (to_z-of_z w64 (at k) (fits_i64 k))
 
 pub returns-in_default : goal.returns-in_default
 unfolding admitted
