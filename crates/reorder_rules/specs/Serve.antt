@@ -10,10 +10,10 @@ use Rattle.reorder_rules.specs.Turn.{Turn, turn, turned, shown, turns, turned_al
 module _ {S : Type 0} (B : Buffer S) where
   -- 30, 27, 29: session broken; store not 34,560 bytes; output under 1,080
   unfoldable pub serve_refusal : S → ℕ → ℕ → ℕ
-  serve_refusal s store_size out_size =
+  serve_refusal s store_length out_length =
       B.unfit s then
-      refuse 27 unless eqb store_size store_size else
-      refuse 29 unless leb packet_size out_size else
+      refuse 27 unless eqb store_length store_size else
+      refuse 29 unless leb packet_size out_length else
       0
 
   -- a serve that gives a packet writes the first 1,080 bytes of its output, and otherwise writes nothing
@@ -22,10 +22,10 @@ module _ {S : Type 0} (B : Buffer S) where
 
   -- 30, 27, 29, 31: session broken; store not 34,560 bytes; output not 34,560; budget over 32
   unfoldable pub drain_refusal : S → ℕ → ℕ → ℕ → ℕ
-  drain_refusal s store_size out_size budget =
+  drain_refusal s store_length out_length budget =
       B.unfit s then
-      refuse 27 unless eqb store_size store_size else
-      refuse 29 unless eqb out_size store_size else
+      refuse 27 unless eqb store_length store_size else
+      refuse 29 unless eqb out_length store_size else
       refuse 31 unless leb budget positions else
       0
 
