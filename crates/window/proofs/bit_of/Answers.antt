@@ -1,5 +1,5 @@
 -- `1 << k` is 2 ^ k.
-use Rattle.std.proofs.Common.{◌%◌, arith, rules}
+use Rattle.std.proofs.Common.{◌%◌, arith}
 use Rattle.numbers.proofs.Bits.{one_shl}
 use Rattle.window.proofs.bit_of.Goals as goal
 

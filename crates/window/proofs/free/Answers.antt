@@ -1,5 +1,4 @@
 -- The sum wraps as the definition says, and the first position's bit is cleared.
-use Rattle.std.proofs.Common.{rules}
 use Rattle.window.proofs.free.Goals as goal
 
 pub returns : goal.returns

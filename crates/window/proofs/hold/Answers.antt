@@ -1,5 +1,5 @@
 -- The position's bit is set.
-use Rattle.std.proofs.Common.{◌%◌, ap, ◌∙◌, rules}
+use Rattle.std.proofs.Common.{◌%◌, ap, ◌∙◌}
 use lib.Bits.{bit_or}
 use Rattle.numbers.proofs.Bits.{set_bit_lem}
 use Rattle.window.proofs.hold.Goals as goal

@@ -1,5 +1,5 @@
 -- Below the window, above it, and inside by the position's bit.
-use Rattle.std.proofs.Common.{ℕ, ◌/◌, ◌%◌, ◌^◌, eqb, sym, ap, ◌∙◌, arith, rules}
+use Rattle.std.proofs.Common.{ℕ, ◌/◌, ◌%◌, ◌^◌, eqb, sym, ap, ◌∙◌, arith}
 use Rattle.numbers.proofs.Bits.{and_one}
 use Rattle.window.proofs.Held.{held_below, held_above, held_inside}
 use Rattle.window.proofs.is_held.Goals as goal

@@ -1,5 +1,5 @@
 -- By the leading zeros of the rotated word; nothing is held from start + 32 on.
-use Rattle.std.proofs.Common.{sym, arith, rules}
+use Rattle.std.proofs.Common.{sym, arith}
 use lib.Count.{leading_le}
 use Rattle.window.proofs.Held.{held_most, none_held}
 use Rattle.window.proofs.Furthest.{by_leading_zeros}

@@ -1,5 +1,5 @@
 -- The lowest bit of the rotated word is the first position's mark.
-use Rattle.std.proofs.Common.{◌≡◌, ℕ, ◌+◌, ◌%◌, eqb, sym, ap, ◌∙◌, arith, rules}
+use Rattle.std.proofs.Common.{◌≡◌, ℕ, ◌+◌, ◌%◌, eqb, sym, ap, ◌∙◌, arith}
 use Rattle.numbers.specs.Bit.{bit}
 use Rattle.numbers.proofs.Bits.{and_one}
 use Rattle.window.specs.Window.{held_at}

@@ -1,5 +1,5 @@
 -- Each bit of the rotated word.
-use Rattle.std.proofs.Common.{◌≡◌, ◌+◌, ◌%◌, ap, ◌∙◌, arith, rules}
+use Rattle.std.proofs.Common.{◌≡◌, ◌+◌, ◌%◌, ap, ◌∙◌, arith}
 use Rattle.numbers.specs.Bit.{bit}
 use Rattle.window.proofs.Furthest.{rotated_bit}
 use Rattle.window.proofs.rotated.Goals as goal

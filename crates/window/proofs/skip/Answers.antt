@@ -1,5 +1,4 @@
 -- The sum wraps as the definition says.
-use Rattle.std.proofs.Common.{rules}
 use Rattle.window.proofs.skip.Goals as goal
 
 pub returns : goal.returns

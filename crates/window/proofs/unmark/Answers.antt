@@ -1,5 +1,5 @@
 -- The position's bit is cleared.
-use Rattle.std.proofs.Common.{ℕ, ◌-◌, ◌%◌, ap, ◌∙◌, arith, rules}
+use Rattle.std.proofs.Common.{ℕ, ◌-◌, ◌%◌, ap, ◌∙◌, arith}
 use lib.Bits.{bit_and}
 use Rattle.numbers.proofs.Bits.{clear_bit_lem}
 use Rattle.window.proofs.unmark.Goals as goal
