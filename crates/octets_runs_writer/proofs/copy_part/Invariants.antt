@@ -1,12 +1,9 @@
 -- The law of loops that store bytes, at the bytes from an index on.
-use Prim.Native.Nat.{ℕ, ◌+◌, ◌-◌, ◌<◌, ◌≤◌, min}
-use mathlib.Core.Path.{◌≡◌, sym, ap, ◌∙◌, subst}
-use native.Mathlib.Omega.{arith}
-use lib.ListN.{length, set}
+use Prim.Native.Nat.{◌-◌, ◌≤◌, min}
+use mathlib.Core.Path.{◌≡◌}
+use lib.ListN.{length}
 use Rattle.octets.specs.Table.{octets_at}
-use Rattle.octets.proofs.Fill.{octets_count, octets_at_lem}
-use Rattle.octets.proofs.Read.{past_end}
-use Rattle.octets.proofs.Store.{Stored, store_none, store_more, store_done}
+use Rattle.octets.proofs.Store.{Stored}
 use Rattle.octets_runs_writer.proofs.copy_part.Given as goal
 
 abbrev pub invariant-loop-k : goal.invariant-loop-k

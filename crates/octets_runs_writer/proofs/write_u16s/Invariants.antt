@@ -1,9 +1,7 @@
 -- The law of loops that store numbers, at two bytes each.
 use Prim.Native.Nat.{◌-◌}
-use native.Mathlib.Omega.{arith}
 use lib.ListN.{length}
-use Rattle.octets_runs_writer.proofs.Writing.{Writing, writing_none, writing_more, writing_done}
-use borrow.Author.Rules.{rules}
+use Rattle.octets_runs_writer.proofs.Writing.{Writing}
 use Rattle.octets_runs_writer.proofs.write_u16s.Given as goal
 
 abbrev pub invariant-loop-k : goal.invariant-loop-k

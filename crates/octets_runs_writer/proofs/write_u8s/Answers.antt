@@ -2,7 +2,6 @@
 use mathlib.Core.Path.{sym, ap, ◌∙◌}
 use Rattle.octets.specs.Bytes.{put}
 use Rattle.octets.proofs.Runs.{all_bytes}
-use borrow.Author.Rules.{rules}
 use Rattle.octets_runs_writer.proofs.write_u8s.Goals as goal
 
 pub returns : goal.returns
