@@ -1,8 +1,6 @@
 -- The upper four bytes, then the lower four.
-use Prim.Native.Nat.{ℕ}
 use native.Mathlib.Nat.{add_assoc}
 use native.Mathlib.Omega.{arith}
-use borrow.Author.Rules.{rules}
 use Rattle.pedr_flags.proofs.descriptor_word.Goals as goal
 
 pub returns : goal.returns

@@ -1,6 +1,5 @@
 -- The bit shifted down to the lowest place.
 use Rattle.numbers.proofs.Bits.{and_one}
-use borrow.Author.Rules.{rules}
 use Rattle.pedr_flags.proofs.has_failed.Goals as goal
 
 pub returns : goal.returns

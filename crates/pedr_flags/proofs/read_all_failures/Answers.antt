@@ -1,18 +1,11 @@
 -- One law of loops that fill a list, at the tests of each shot.
-use Prim.Native.Nat.{ℕ, suc, ◌-◌}
-use mathlib.Core.Path.{◌≡◌, refl}
-use mathlib.Core.List.{List}
+use mathlib.Core.Path.{refl}
 use native.Mathlib.Omega.{arith}
-use Rattle.octets.specs.Bytes.{nat_at}
-use Rattle.octets.proofs.Fill.{Filled, fill_more, fill_done}
-use Rattle.pedr_flags.specs.Descriptor.{failures_of, all_failures_of}
-use Rattle.pedr_flags.specs.declared.ShotFailures.{ShotFailures}
+use Rattle.octets.proofs.Fill.{fill_more, fill_done}
+use Rattle.pedr_flags.specs.Descriptor.{all_failures_of}
 use Rattle.pedr_flags.proofs.Words.{shot_tests}
-use borrow.Author.Rules.{rules}
+use Rattle.pedr_flags.proofs.read_all_failures.Invariants.{failures_at}
 use Rattle.pedr_flags.proofs.read_all_failures.Goals as goal
-
-abbrev failures_at : List ℕ → ℕ → ShotFailures
-failures_at s k = failures_of s (suc k)
 
 pub loop-k-init : goal.loop-k-init
 loop-k-init c = (omega arith, refl)

@@ -1,15 +1,13 @@
 -- One law of loops that fill a list, at the tests of each shot.
 use Prim.Native.Nat.{ℕ, suc, ◌-◌}
-use mathlib.Core.Path.{◌≡◌, refl}
 use mathlib.Core.List.{List}
-use native.Mathlib.Omega.{arith}
-use Rattle.octets.specs.Bytes.{nat_at}
-use Rattle.octets.proofs.Fill.{Filled, fill_more, fill_done}
-use Rattle.pedr_flags.specs.Descriptor.{failures_of, all_failures_of}
+use Rattle.octets.proofs.Fill.{Filled}
+use Rattle.pedr_flags.specs.Descriptor.{failures_of}
 use Rattle.pedr_flags.specs.declared.ShotFailures.{ShotFailures}
-use Rattle.pedr_flags.proofs.Words.{shot_tests}
-use borrow.Author.Rules.{rules}
 use Rattle.pedr_flags.proofs.read_all_failures.Given as goal
+
+abbrev pub failures_at : List ℕ → ℕ → ShotFailures
+failures_at s k = failures_of s (suc k)
 
 abbrev pub invariant-loop-k : goal.invariant-loop-k
 invariant-loop-k l = Filled (failures_at l.bytes) l.initial.failures l.failures l.k

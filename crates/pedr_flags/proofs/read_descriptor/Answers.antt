@@ -1,6 +1,5 @@
 -- Test by test, each from its own bit.
 use Rattle.pedr_flags.specs.Descriptor.{descriptor_of}
-use borrow.Author.Rules.{rules}
 use Rattle.pedr_flags.proofs.read_descriptor.Goals as goal
 
 pub returns : goal.returns

@@ -1,6 +1,5 @@
 -- Test by test, each from its own bit.
 use Rattle.pedr_flags.specs.Descriptor.{failures_of}
-use borrow.Author.Rules.{rules}
 use Rattle.pedr_flags.proofs.read_failures.Goals as goal
 
 pub returns : goal.returns

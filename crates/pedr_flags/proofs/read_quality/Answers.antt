@@ -4,7 +4,6 @@ use mathlib.Core.Path.{ap, ◌∙◌}
 use lib.Bits.{and_mask}
 use mir.Facts.{Fits-mask}
 use Rattle.pedr_flags.specs.Quality.{quality_of}
-use borrow.Author.Rules.{rules}
 use Rattle.pedr_flags.proofs.read_quality.Goals as goal
 
 pub overflow_cast-result : goal.overflow_cast-result

@@ -2,7 +2,6 @@
 use borrow.Author.Tests.{le-leb, lt-leb}
 use Rattle.octets.specs.Refusal.{refuse◌unless◌else◌, say}
 use Rattle.pedr_flags.specs.Shot.{flags_of}
-use borrow.Author.Rules.{rules}
 use Rattle.pedr_flags.proofs.read_shot_flags.Goals as goal
 
 pub returns-then-shot-lt1 : goal.returns-then-shot-lt1
