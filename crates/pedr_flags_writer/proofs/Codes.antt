@@ -1,11 +1,9 @@
 -- Quality, class and encoder bits, taken apart and put together, both ways.
-use Prim.Native.Nat.{ℕ, zero, suc, ◌+◌, ◌*◌, ◌/◌, ◌%◌, ◌^◌, ◌<◌, ◌≤◌}
+use Prim.Native.Nat.{ℕ, zero, suc, ◌+◌, ◌*◌, ◌/◌, ◌%◌, ◌<◌, ◌≤◌}
 use mathlib.Core.Path.{◌≡◌, refl, sym, ap, ◌∙◌}
-use mathlib.Core.Bool.{Bool, true}
 use native.Mathlib.Nat.{div-div-eq-div-mul, mod-mod}
 use native.Mathlib.Omega.{arith}
 use borrow.Author.Tests.{ne_eqb}
-use lib.Dec.{eqb}
 use lib.Count.{ones}
 use Rattle.numbers.proofs.Bits.{ones_bits}
 use Rattle.octets.specs.Bytes.{bits_at}

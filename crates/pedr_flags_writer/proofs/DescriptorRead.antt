@@ -1,30 +1,28 @@
 -- The descriptor's bits, read and put together, both ways.
-use Prim.Native.Nat.{ℕ, zero, suc, ◌+◌, ◌-◌, ◌*◌, ◌/◌, ◌%◌, ◌^◌, ◌<◌, ◌≤◌}
+use Prim.Native.Nat.{ℕ, suc, ◌+◌, ◌-◌, ◌*◌, ◌/◌, ◌%◌, ◌^◌, ◌<◌, ◌≤◌}
 use mathlib.Core.Path.{◌≡◌, refl, sym, ap, ap₂, ◌∙◌, subst}
 use mathlib.Core.Bool.{Bool, false}
 use mathlib.Core.List.{List, [], ◌∷◌, ◌++◌, map}
-use native.Mathlib.Nat.{mod-eq_of_lt, add_assoc}
+use native.Mathlib.Nat.{mod-eq_of_lt}
 use native.Mathlib.Omega.{arith}
 use lib.Arith.{digits_lt}
 use lib.Dec.{eqb}
 use lib.ListN.{length, get_or, take, drop, length-append, length-map, get_or-append, get_or-map}
 use lib.Seq.{get_or-append-add, take_at, take-take}
-use Rattle.numbers.specs.Bit.{bit, digit, from_bits}
+use Rattle.numbers.specs.Bit.{bit, from_bits}
 use Rattle.numbers.proofs.Given.{from_bits_lt, bit_given, digit_lt, test_digit}
 use Rattle.octets.specs.Bytes.{nat_at, octets_of, part, Octets}
 use Rattle.octets.specs.Table.{table}
 use Rattle.octets.proofs.Bits.{is_set, from_table}
-use Rattle.octets.proofs.Codec.{octets_length, octets_bytes, octets_split, part_at, write_read, read_write}
+use Rattle.octets.proofs.Codec.{octets_bytes, octets_split, part_at, write_read, read_write}
 use Rattle.octets.proofs.Fill.{table_below, table_self, table_length}
 use Rattle.octets.proofs.Read.{nat_bit, nat_lt}
-use Rattle.layout.specs.Column.{value}
-use Rattle.pedr_layout.specs.Layout.{◌u3}
 use Rattle.pedr_flags.specs.Descriptor.{failed, descriptor_of, failures_of, all_failures_of}
 use Rattle.pedr_flags.specs.declared.Descriptor.{Descriptor}
 use Rattle.pedr_flags.specs.declared.ShotFailures.{ShotFailures}
 use Rattle.pedr_flags_writer.specs.Descriptor.{descriptor_bits, descriptor_octets}
 use Rattle.pedr_flags_writer.proofs.Shots.{none}
-use Rattle.pedr_flags_writer.proofs.Descriptor.{high_word, low_word, two_words}
+use Rattle.pedr_flags_writer.proofs.Descriptor.{low_word, two_words}
 
 -- ---- read, then put together
 

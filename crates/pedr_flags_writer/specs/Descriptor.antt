@@ -1,5 +1,5 @@
 -- Document 01, "PEDR record", Descriptor, put together.
-use Rattle.std.specs.Prelude.{ℕ, Bool, List, [], ◌∷◌, ◌++◌, map, eqb}
+use Rattle.std.specs.Prelude.{ℕ, Bool, List, ◌∷◌, ◌++◌, map, eqb}
 use Rattle.numbers.specs.Bit.{bit, from_bits}
 use Rattle.octets.specs.Bytes.{octets_of}
 use Rattle.octets.specs.Table.{table}

@@ -10,10 +10,8 @@ use Rattle.pedr_arrays.specs.Arrays.{shot_class, classes_of}
 use Rattle.pedr_arrays.specs.declared.ShotClass.{ShotClass}
 use Rattle.octets.proofs.Fill.{Filled, fill_more, fill_done}
 use borrow.Author.Rules.{rules}
+use Rattle.pedr_arrays.proofs.read_classes.Invariants.{class_at}
 use Rattle.pedr_arrays.proofs.read_classes.Goals as goal
-
-abbrev class_at : List ℕ → ℕ → ShotClass
-class_at s k = shot_class (item s class k)
 
 pub loop-k-init : goal.loop-k-init
 loop-k-init c = (omega arith, refl)

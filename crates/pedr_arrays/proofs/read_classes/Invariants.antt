@@ -12,6 +12,9 @@ use Rattle.octets.proofs.Fill.{Filled, fill_more, fill_done}
 use borrow.Author.Rules.{rules}
 use Rattle.pedr_arrays.proofs.read_classes.Given as goal
 
+abbrev pub class_at : List ℕ → ℕ → ShotClass
+class_at s k = shot_class (item s class k)
+
 abbrev pub invariant-loop-k : goal.invariant-loop-k
 invariant-loop-k l = Filled (class_at l.bytes) l.initial.classes l.classes l.k
 

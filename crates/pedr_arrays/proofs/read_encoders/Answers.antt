@@ -12,10 +12,8 @@ use Rattle.pedr_flags.specs.declared.Encoder.{Encoder}
 use Rattle.pedr_arrays.specs.Arrays.{encoders_of}
 use Rattle.octets.proofs.Fill.{Filled, fill_more, fill_done}
 use borrow.Author.Rules.{rules}
+use Rattle.pedr_arrays.proofs.read_encoders.Invariants.{encoder_at}
 use Rattle.pedr_arrays.proofs.read_encoders.Goals as goal
-
-abbrev encoder_at : List ℕ → ℕ → Encoder
-encoder_at s k = encoder_of (item s encoder k)
 
 pub loop-k-init : goal.loop-k-init
 loop-k-init c = (omega arith, refl)

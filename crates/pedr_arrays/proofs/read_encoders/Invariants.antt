@@ -14,6 +14,9 @@ use Rattle.octets.proofs.Fill.{Filled, fill_more, fill_done}
 use borrow.Author.Rules.{rules}
 use Rattle.pedr_arrays.proofs.read_encoders.Given as goal
 
+abbrev pub encoder_at : List ℕ → ℕ → Encoder
+encoder_at s k = encoder_of (item s encoder k)
+
 abbrev pub invariant-loop-k : goal.invariant-loop-k
 invariant-loop-k l = Filled (encoder_at l.bytes) l.initial.encoders l.encoders l.k
 

@@ -15,7 +15,7 @@ use borrow.Author.Rules.{rules}
 use Rattle.pedr_block_writer.proofs.put_frame_3.Goals as goal
 
 -- the arrays' lengths, by their types
-lengths : (s : goal.Start) → (length s.args.t2 ≡ 2) × (length s.args.t3 ≡ 14)
+lengths : (s : goal.Start) → (length s.args.status_flags ≡ 2) × (length s.args.tracker ≡ 14)
 lengths s = (search rules, search rules)
 
 -- the carried bytes are bytes
@@ -34,14 +34,14 @@ pub returns : goal.returns
 unfolding octets_of_all
 returns c =
     let s = c in
-    puts_join (row_parts (columns.columns_in columns.frame3) (frame3_row s.args.fields s.args.t2 s.args.t3 s.args.carried.now)) (columns.columns_in columns.frame3) columns.block_start columns.block_end refl
-    (frame3_fits s.args.fields s.args.t2 s.args.t3 _ (lengths s).0 (lengths s).1)
+    puts_join (row_parts (columns.columns_in columns.frame3) (frame3_row s.args.fields s.args.status_flags s.args.tracker s.args.carried.now)) (columns.columns_in columns.frame3) columns.block_start columns.block_end refl
+    (frame3_fits s.args.fields s.args.status_flags s.args.tracker _ (lengths s).0 (lengths s).1)
     (c.write_u16.ensures
     ▸ c.write_u16-2.ensures
     ▸ c.write_u8.ensures
     ▸ c.write_u8-2.ensures
     ▸ c.write_u16-3.ensures
-    ▸ whole_stored 2 s.args.t2 _ _ _ (lengths s).0 c.write_u16s.ensures
+    ▸ whole_stored 2 s.args.status_flags _ _ _ (lengths s).0 c.write_u16s.ensures
     ▸ c.write_u16-4.ensures
     ▸ c.write_u8-3.ensures
     ▸ c.write_u8-4.ensures

@@ -13,7 +13,7 @@ use borrow.Author.Rules.{rules}
 use Rattle.pedr_block_writer.proofs.put_frame_4.Goals as goal
 
 -- the array's length, by its type
-lengths : (s : goal.After-slice_known-2-1) → length s.args.t1 ≡ 14
+lengths : (s : goal.After-slice_known-2-1) → length s.args.tracker ≡ 14
 lengths s = search rules
 
 -- a store leaves the output's length
@@ -25,7 +25,7 @@ pub returns : goal.returns
 unfolding octets_of_all
 returns c =
     let s = c in
-    puts_join (row_parts (columns.columns_in columns.frame4) (frame4_row s.args.t1)) (columns.columns_in columns.frame4) columns.block_start columns.block_end refl
-    (frame4_fits s.args.t1 (lengths s))
-    (whole_stored 14 s.args.t1 _ _ _ (lengths s) c.write_u16s.ensures
+    puts_join (row_parts (columns.columns_in columns.frame4) (frame4_row s.args.tracker)) (columns.columns_in columns.frame4) columns.block_start columns.block_end refl
+    (frame4_fits s.args.tracker (lengths s))
+    (whole_stored 14 s.args.tracker _ _ _ (lengths s) c.write_u16s.ensures
     ▸ stop)

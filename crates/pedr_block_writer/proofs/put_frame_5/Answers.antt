@@ -14,7 +14,7 @@ use borrow.Author.Rules.{rules}
 use Rattle.pedr_block_writer.proofs.put_frame_5.Goals as goal
 
 -- the arrays' lengths, by their types
-lengths : (s : goal.After-slice_known-6-1) → (length s.args.t2 ≡ 14) × (length s.args.t3 ≡ 5)
+lengths : (s : goal.After-slice_known-6-1) → (length s.args.tracker ≡ 14) × (length s.args.dump ≡ 5)
 lengths s = (search rules, search rules)
 
 -- the carried bytes are bytes
@@ -30,8 +30,8 @@ pub returns : goal.returns
 unfolding octets_of_all
 returns c =
     let s = c in
-    puts_join (row_parts (columns.columns_in columns.frame5) (frame5_row s.args.fields s.args.t2 s.args.t3 s.args.carried.now)) (columns.columns_in columns.frame5) columns.block_start columns.block_end refl
-    (frame5_fits s.args.fields s.args.t2 s.args.t3 _ (lengths s).0 (lengths s).1)
+    puts_join (row_parts (columns.columns_in columns.frame5) (frame5_row s.args.fields s.args.tracker s.args.dump s.args.carried.now)) (columns.columns_in columns.frame5) columns.block_start columns.block_end refl
+    (frame5_fits s.args.fields s.args.tracker s.args.dump _ (lengths s).0 (lengths s).1)
     (c.write_u16s.ensures
     ▸ c.write_u32.ensures
     ▸ bytes_stored s.args.carried.now _ _ _ _ _ (octets c) c.copy_part.ensures

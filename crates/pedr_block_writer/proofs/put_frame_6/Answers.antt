@@ -13,7 +13,7 @@ use borrow.Author.Rules.{rules}
 use Rattle.pedr_block_writer.proofs.put_frame_6.Goals as goal
 
 -- the arrays' lengths, by their types
-lengths : (s : goal.After-slice_known-4-1) → (length s.args.t2 ≡ 5) × (length s.args.t3 ≡ 8)
+lengths : (s : goal.After-slice_known-4-1) → (length s.args.dump ≡ 5) × (length s.args.echo ≡ 8)
 lengths s = (search rules, search rules)
 
 -- a store leaves the output's length
@@ -25,9 +25,9 @@ pub returns : goal.returns
 unfolding octets_of_all
 returns c =
     let s = c in
-    puts_join (row_parts (columns.columns_in columns.frame6) (frame6_row s.args.fields s.args.t2 s.args.t3)) (columns.columns_in columns.frame6) columns.block_start columns.block_end refl
-    (frame6_fits s.args.fields s.args.t2 s.args.t3 (lengths s).0 (lengths s).1)
-    (whole_stored 5 s.args.t2 _ _ _ (lengths s).0 c.write_u16s.ensures
-    ▸ whole_stored 8 s.args.t3 _ _ _ (lengths s).1 c.write_u16s-2.ensures
+    puts_join (row_parts (columns.columns_in columns.frame6) (frame6_row s.args.fields s.args.dump s.args.echo)) (columns.columns_in columns.frame6) columns.block_start columns.block_end refl
+    (frame6_fits s.args.fields s.args.dump s.args.echo (lengths s).0 (lengths s).1)
+    (whole_stored 5 s.args.dump _ _ _ (lengths s).0 c.write_u16s.ensures
+    ▸ whole_stored 8 s.args.echo _ _ _ (lengths s).1 c.write_u16s-2.ensures
     ▸ c.write_u16.ensures
     ▸ stop)

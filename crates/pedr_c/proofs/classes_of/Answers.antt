@@ -9,13 +9,11 @@ use Rattle.octets.proofs.Fill.{Filled, fill_more, fill_done, table_map}
 use Rattle.pedr_arrays.specs.Arrays.{shot_class}
 use Rattle.pedr_arrays.specs.declared.ShotClass.{ShotClass}
 use borrow.Author.Rules.{rules}
+use Rattle.pedr_c.proofs.classes_of.Invariants.{class_at}
 use Rattle.pedr_c.proofs.classes_of.Goals as goal
 
-abbrev class_at : List ℕ → ℕ → ShotClass
-class_at numbers k = shot_class (get_or numbers k 0)
-
 -- the array's length, by its type
-shots : (s : goal.Start) → length s.args.t1 ≡ 20
+shots : (s : goal.Start) → length s.args.numbers ≡ 20
 shots s = search rules
 
 pub loop-k-init : goal.loop-k-init
@@ -42,13 +40,13 @@ loop-k-smaller c = omega arith
 pub loop-k-preserved : goal.loop-k-preserved
 loop-k-preserved c =
     let l = c.loop-k in
-    fill_more (class_at c.args.t1) _ l.classes l.k _ c.loop-k-test.true
+    fill_more (class_at c.args.numbers) _ l.classes l.k _ c.loop-k-test.true
     (λ i. record { class = c.class_of-class.ensures i }) l.invariant
 
 pub returns : goal.returns
 returns c =
     let l = c.loop-k in
-    let numbers = c.args.t1 in
+    let numbers = c.args.numbers in
     let f = class_at numbers in
     fill_done f _ l.classes l.k c.loop-k-test.false l.invariant ∙ ap (λ (n : ℕ). table n f) (sym (shots (goal.at.returns c).Start))
     ∙ table_map shot_class numbers 0

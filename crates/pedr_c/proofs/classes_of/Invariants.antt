@@ -11,6 +11,9 @@ use Rattle.pedr_arrays.specs.declared.ShotClass.{ShotClass}
 use borrow.Author.Rules.{rules}
 use Rattle.pedr_c.proofs.classes_of.Given as goal
 
+abbrev pub class_at : List ℕ → ℕ → ShotClass
+class_at numbers k = shot_class (get_or numbers k 0)
+
 abbrev pub invariant-loop-k : goal.invariant-loop-k
 invariant-loop-k l = Filled (class_at l.numbers) l.initial.classes l.classes l.k
 

@@ -9,11 +9,11 @@ use borrow.Author.Rules.{rules}
 use Rattle.pedr_codes.proofs.are_proper.Goals as goal
 
 -- the array's length, by its type
-shots : (s : goal.Start) → length s.args.t1 ≡ 20
+shots : (s : goal.Start) → length s.args.classes ≡ 20
 shots s = search rules
 
 pub loop-k-init : goal.loop-k-init
-loop-k-init c = tested_none is_proper_shot c.args.t1
+loop-k-init c = tested_none is_proper_shot c.args.classes
 
 pub offset_bounds-classes-k : goal.offset_bounds-classes-k
 offset_bounds-classes-k c = omega arith
@@ -32,11 +32,11 @@ loop-k-preserved c =
     let l = c.loop-k in
     let s = c in
     let n = shots s in
-    tested_more is_proper_shot s.args.t1 l.all l.k _ _ (omega arith) c.is_proper-proper.ensures l.invariant
+    tested_more is_proper_shot s.args.classes l.all l.k _ _ (omega arith) c.is_proper-proper.ensures l.invariant
 
 pub returns : goal.returns
 returns c =
     let l = c.loop-k in
     let s = c in
     let n = shots s in
-    tested_all is_proper_shot s.args.t1 l.all l.k (omega arith) l.invariant
+    tested_all is_proper_shot s.args.classes l.all l.k (omega arith) l.invariant

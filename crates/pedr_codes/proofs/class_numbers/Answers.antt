@@ -11,7 +11,7 @@ use borrow.Author.Rules.{rules}
 use Rattle.pedr_codes.proofs.class_numbers.Goals as goal
 
 -- the array's length, by its type
-twenty : (s : goal.Start) → length s.args.t1 ≡ 20
+twenty : (s : goal.Start) → length s.args.shots ≡ 20
 twenty s = search rules
 
 pub loop-k-init : goal.loop-k-init
@@ -38,13 +38,13 @@ loop-k-smaller c = omega arith
 pub loop-k-preserved : goal.loop-k-preserved
 loop-k-preserved c =
     let l = c.loop-k in
-    let xs = c.args.t1 in
+    let xs = c.args.shots in
     fill_more (λ j. shot_class_number (get_or xs j (shot_class 0))) _ l.numbers l.k _ c.loop-k-test.true c.class_number.ensures l.invariant
 
 pub returns : goal.returns
 returns c =
     let l = c.loop-k in
     let s = c in
-    let xs = s.args.t1 in
+    let xs = s.args.shots in
     fill_done (λ j. shot_class_number (get_or xs j (shot_class 0))) _ l.numbers l.k c.loop-k-test.false l.invariant
     ∙ ap (λ n. table n (λ j. shot_class_number (get_or xs j (shot_class 0)))) (sym (twenty s)) ∙ table_map shot_class_number xs (shot_class 0)

@@ -11,7 +11,7 @@ use borrow.Author.Rules.{rules}
 use Rattle.pedr_codes.proofs.encoder_bytes.Goals as goal
 
 -- the array's length, by its type
-shots : (s : goal.Start) → length s.args.t1 ≡ 20
+shots : (s : goal.Start) → length s.args.encoders ≡ 20
 shots s = search rules
 
 pub loop-k-init : goal.loop-k-init
@@ -35,13 +35,13 @@ loop-k-smaller c = omega arith
 pub loop-k-preserved : goal.loop-k-preserved
 loop-k-preserved c =
     let l = c.loop-k in
-    let xs = c.args.t1 in
+    let xs = c.args.encoders in
     fill_more (λ j. encoder_byte (get_or xs j (encoder_of 0))) _ l.bytes l.k _ c.loop-k-test.true c.encoder_byte.ensures l.invariant
 
 pub returns : goal.returns
 returns c =
     let l = c.loop-k in
     let s = c in
-    let xs = s.args.t1 in
+    let xs = s.args.encoders in
     fill_done (λ j. encoder_byte (get_or xs j (encoder_of 0))) _ l.bytes l.k c.loop-k-test.false l.invariant
     ∙ ap (λ n. table n (λ j. encoder_byte (get_or xs j (encoder_of 0)))) (sym (shots s)) ∙ table_map encoder_byte xs (encoder_of 0)

@@ -13,11 +13,11 @@ use borrow.Author.Rules.{rules}
 use Rattle.pedr_codes.proofs.have_two_bits.Goals as goal
 
 -- the array's length, by its type
-shots : (s : goal.Start) → length s.args.t1 ≡ 20
+shots : (s : goal.Start) → length s.args.encoders ≡ 20
 shots s = search rules
 
 pub loop-k-init : goal.loop-k-init
-loop-k-init c = tested_none has_two_bits c.args.t1
+loop-k-init c = tested_none has_two_bits c.args.encoders
 
 pub offset_bounds-encoders-k : goal.offset_bounds-encoders-k
 offset_bounds-encoders-k c = omega arith
@@ -35,7 +35,7 @@ pub loop-k-preserved : goal.loop-k-preserved
 loop-k-preserved c =
     let l = c.loop-k in
     let s = c in
-    let es = s.args.t1 in
+    let es = s.args.encoders in
     let n = shots s in
     let w = c.encoder_word-bits in
     subst (λ (t : Bool). Tested has_two_bits es t (l.k + 1)) (sym (together l.bits w.result))
@@ -46,4 +46,4 @@ returns c =
     let l = c.loop-k in
     let s = c in
     let n = shots s in
-    c.bytes_have_two_bits.ensures ∙ tested_all has_two_bits s.args.t1 (bytes_have_two_bits l.bits) l.k (omega arith) l.invariant
+    c.bytes_have_two_bits.ensures ∙ tested_all has_two_bits s.args.encoders (bytes_have_two_bits l.bits) l.k (omega arith) l.invariant

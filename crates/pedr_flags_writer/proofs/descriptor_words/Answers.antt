@@ -7,10 +7,6 @@ use Rattle.pedr_flags_writer.proofs.Descriptor.{high_word, two_words}
 use borrow.Author.Rules.{rules}
 use Rattle.pedr_flags_writer.proofs.descriptor_words.Goals as goal
 
--- the array's length, by its type
-shots : (s : goal.Start) → length s.args.failures ≡ 20
-shots s = search rules
-
 pub overflow_mul-result-2 : goal.overflow_mul-result-2
 overflow_mul-result-2 c = omega arith
 
@@ -34,9 +30,9 @@ overflow_add-result-5 c = omega arith
 
 pub returns : goal.returns
 returns c =
-    let s = c in
-    let d = s.args.descriptor in
-    let fs = s.args.failures in
-    let high : c.shot_words-shots.result.high + d.carried % 2 ^ 24 * 2 ^ 40 ≡ high_word d fs (shots s) =
+    let d = c.args.descriptor in
+    let fs = c.args.failures in
+    let shots : length fs ≡ 20 = search rules in
+    let high : c.shot_words-shots.result.high + d.carried % 2 ^ 24 * 2 ^ 40 ≡ high_word d fs shots =
     omega arith in
-    (ap₂ (λ (h l : ℕ). h * 2 ^ 64 + l) high (omega arith) ∙ sym (two_words d fs (shots s)), omega arith)
+    (ap₂ (λ (h l : ℕ). h * 2 ^ 64 + l) high (omega arith) ∙ sym (two_words d fs shots), omega arith)

@@ -1,7 +1,6 @@
 -- At most 20 shots are good.
 use native.Mathlib.Omega.{arith}
 use Rattle.numbers.proofs.Bits.{bits_set_le}
-use borrow.Author.Rules.{rules}
 use Rattle.pedr_flags_writer.proofs.quality_word.Goals as goal
 
 pub overflow_add-result : goal.overflow_add-result

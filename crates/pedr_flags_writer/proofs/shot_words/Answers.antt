@@ -1,5 +1,5 @@
 -- Two words that grow by a bit of each test from the last shot to the first.
-use Prim.Native.Nat.{ℕ, suc, ◌+◌, ◌-◌, ◌*◌, ◌^◌, ◌<◌, ◌≤◌}
+use Prim.Native.Nat.{◌+◌, ◌-◌, ◌*◌, ◌^◌, ◌<◌}
 use mathlib.Core.Path.{◌≡◌, ap, ◌∙◌}
 use mathlib.Core.Bool.{Bool}
 use mathlib.Core.List.{map}
@@ -11,13 +11,10 @@ use Rattle.pedr_flags_writer.proofs.Shots.{none, column, column_all, column_none
 use borrow.Author.Rules.{rules}
 use Rattle.pedr_flags_writer.proofs.shot_words.Goals as goal
 
--- the array's length, by its type
-shots : (s : goal.Start) → length s.args.t1 ≡ 20
-shots s = search rules
-
 pub loop-k-init : goal.loop-k-init
 loop-k-init c =
-    let n : (g : ShotFailures → Bool) → column g c.args.t1 20 ≡ 0 = λ g. column_none g c.args.t1 20 (omega (arith, shots c)) in
+    let shots : length c.args.failures ≡ 20 = search rules in
+    let n : (g : ShotFailures → Bool) → column g c.args.failures 20 ≡ 0 = λ g. column_none g c.args.failures 20 (omega (arith, shots)) in
     omega (arith, n (λ f. f.window), n (λ f. f.comparison), n (λ f. f.power), n (λ f. f.energy), n (λ f. f.range))
 
 pub overflow_sub-k : goal.overflow_sub-k
@@ -64,11 +61,10 @@ loop-k-smaller c = omega arith
 
 pub loop-k-preserved : goal.loop-k-preserved
 loop-k-preserved c =
-    let a = c in
     let k = c.loop-k.k in
-    let l = shots a in
     let h = c.loop-k-test.true in
-    let fs = a.args.t1 in
+    let fs = c.args.failures in
+    let l : length fs ≡ 20 = search rules in
     let m : (g : ShotFailures → Bool) → column g fs (k - 1) ≡ digit (g (get_or fs (k - 1) none)) + 2 * column g fs k = λ g. column_more g fs k h (omega arith) in
     let b : (g : ShotFailures → Bool) → column g fs (k - 1) < 2 ^ 20 = λ g. column_lt g fs (k - 1) l in
     omega (
@@ -87,7 +83,7 @@ loop-k-preserved c =
 
 pub returns : goal.returns
 returns c =
-    let fs = c.args.t1 in
+    let fs = c.args.failures in
     let z : c.loop-k.k ≡ 0 = omega arith in
     let e : (g : ShotFailures → Bool) → column g fs c.loop-k.k ≡ from_bits (map g fs) = λ g. ap (column g fs) z ∙ column_all g fs in
     omega (arith, e (λ f. f.window), e (λ f. f.comparison), e (λ f. f.power), e (λ f. f.energy), e (λ f. f.range))

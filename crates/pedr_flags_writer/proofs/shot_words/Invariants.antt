@@ -1,14 +1,7 @@
 -- Two words that grow by a bit of each test from the last shot to the first.
-use Prim.Native.Nat.{ℕ, suc, ◌+◌, ◌-◌, ◌*◌, ◌^◌, ◌<◌, ◌≤◌}
-use mathlib.Core.Path.{◌≡◌, ap, ◌∙◌}
-use mathlib.Core.Bool.{Bool}
-use mathlib.Core.List.{map}
-use native.Mathlib.Omega.{arith}
-use lib.ListN.{length, get_or}
-use Rattle.numbers.specs.Bit.{digit, from_bits}
-use Rattle.pedr_flags.specs.declared.ShotFailures.{ShotFailures}
-use Rattle.pedr_flags_writer.proofs.Shots.{none, column, column_all, column_none, column_more, column_lt}
-use borrow.Author.Rules.{rules}
+use Prim.Native.Nat.{◌+◌, ◌*◌, ◌^◌, ◌<◌, ◌≤◌}
+use mathlib.Core.Path.{◌≡◌}
+use Rattle.pedr_flags_writer.proofs.Shots.{column}
 use Rattle.pedr_flags_writer.proofs.shot_words.Given as goal
 
 abbrev pub invariant-loop-k : goal.invariant-loop-k

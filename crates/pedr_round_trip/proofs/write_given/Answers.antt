@@ -10,7 +10,7 @@ use borrow.Author.Rules.{rules}
 use Rattle.pedr_round_trip.proofs.write_given.Goals as goal
 
 -- the array's length, by its type
-size : (s : goal.After-carried_count-n) → length s.args.t5 ≡ 10
+size : (s : goal.After-carried_count-n) → length s.args.carried ≡ 10
 size s = search rules
 
 pub slice_bounds-write_record-end : goal.slice_bounds-write_record-end

@@ -20,13 +20,13 @@ three f (x ∷ y ∷ z ∷ []) a b c l p q r = λ i. p i ∷ q i ∷ r i ∷ []
 three f (x ∷ y ∷ z ∷ u ∷ xs) a b c l p q r = absurd (omega arith)
 
 -- the array's length, by its type
-length_is : (s : goal.Start) → length s.args.t1 ≡ 3
+length_is : (s : goal.Start) → length s.args.xyz ≡ 3
 length_is s = search rules
 
 pub returns : goal.returns
 returns c =
     let s = c in
-    let xs = s.args.t1 in
+    let xs = s.args.xyz in
     let x = to_z-of_z w32 (get_or xs 0 (pos 0)) (record { sfits = c.i32_bits-arg-1.given }) in
     let y = to_z-of_z w32 (get_or xs 1 (pos 0)) (record { sfits = c.i32_bits-arg-2-1.given }) in
     let z = to_z-of_z w32 (get_or xs 2 (pos 0)) (record { sfits = c.i32_bits-arg-3-1.given }) in
