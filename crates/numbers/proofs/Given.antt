@@ -1,15 +1,14 @@
 -- Numbers given by their bits.
-use Prim.Native.Nat.{ℕ, zero, suc, ◌+◌, ◌*◌, ◌/◌, ◌%◌, ◌^◌, ◌<◌}
-use mathlib.Core.Path.{◌≡◌, refl, sym, ap, ap₂, ◌∙◌}
+use Prim.Native.Nat.{ℕ, zero, suc, ◌+◌, ◌*◌, ◌^◌, ◌<◌}
+use mathlib.Core.Path.{◌≡◌, refl, ap, ◌∙◌}
 use mathlib.Core.Bool.{Bool, true, false}
 use mathlib.Core.List.{List, [], ◌∷◌, ◌++◌}
-use native.Mathlib.Nat.{mod-one, pow-zero, pow-suc, mul_comm, mul-add, mul_assoc, mod-eq_of_lt, div-add-mod}
+use native.Mathlib.Nat.{pow-zero, pow-suc, mul_comm, mul_assoc}
 use native.Mathlib.Omega.{arith}
 use lib.Dec.{eqb}
 use lib.ListN.{length, get_or}
-use lib.Pow.{pow_pos}
 use Rattle.numbers.specs.Bit.{bit, digit, from_bits}
-use Rattle.numbers.proofs.Bits.{bit_lt, bit_zero, bit_suc}
+use Rattle.numbers.proofs.Bits.{bit_zero, bit_suc}
 
 pub digit_lt : (b : Bool) → digit b < 2
 digit_lt true = omega arith

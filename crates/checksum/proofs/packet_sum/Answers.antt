@@ -1,5 +1,5 @@
 -- All words less the one at the place; a place past the end takes nothing.
-use Rattle.std.proofs.Common.{◌∙◌, arith, rules}
+use Rattle.std.proofs.Common.{◌∙◌, arith}
 use Rattle.checksum.proofs.Sum.{place_taken, place_past}
 use Rattle.checksum.proofs.packet_sum.Goals as goal
 

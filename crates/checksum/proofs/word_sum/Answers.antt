@@ -1,6 +1,5 @@
 -- The invariant: what is added so far and the words that are left, the first of them without its upper half, make the whole.
-use Rattle.std.proofs.Common.{◌≡◌, ℕ, ◌+◌, ◌-◌, ◌*◌, ◌%◌, ◌<◌, ◌≤◌, length, drop, sym, refl, ap, ◌∙◌, arith, rules}
-use Rattle.checksum.specs.Sum.{word_sum}
+use Rattle.std.proofs.Common.{◌≡◌, ℕ, ◌+◌, ◌*◌, ◌%◌, drop, sym, refl, ap, ◌∙◌, arith}
 use Rattle.checksum.proofs.Sum.{low_sum, sum_none, sum_first, low_pair, low_last, add_more}
 use Rattle.checksum.proofs.word_sum.Goals as goal
 

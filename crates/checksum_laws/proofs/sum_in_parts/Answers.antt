@@ -1,5 +1,5 @@
 -- Each part has its sum; by the law of a cut the two add to the whole's.
-use Rattle.std.proofs.Common.{◌≡◌, ℕ, ◌+◌, ◌-◌, ◌*◌, ◌%◌, List, length, take, drop, sym, ap, ◌∙◌, arith, length-drop, length-take-le, take_all, rules}
+use Rattle.std.proofs.Common.{◌≡◌, ℕ, ◌+◌, ◌-◌, ◌*◌, ◌%◌, List, length, take, drop, sym, ap, ◌∙◌, arith, length-drop, length-take-le, take_all}
 use Rattle.checksum.specs.Sum.{word_sum}
 use Rattle.checksum_laws.proofs.Parts.{parts_add, cut_end}
 use Rattle.checksum_laws.proofs.sum_in_parts.Goals as goal

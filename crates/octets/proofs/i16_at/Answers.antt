@@ -3,7 +3,6 @@ use mathlib.Core.Path.{ap, ◌∙◌}
 use mir.Syntax.{w16}
 use Rattle.numbers.proofs.Ranges.{held}
 use Rattle.octets.specs.Bytes.{signed}
-use borrow.Author.Rules.{rules}
 use Rattle.octets.proofs.i16_at.Goals as goal
 
 pub returns : goal.returns

@@ -1,10 +1,10 @@
 -- One law of loops that fill a list, at the bytes from index i on.
-use Prim.Native.Nat.{◌+◌, ◌-◌, min}
-use mathlib.Core.Path.{◌≡◌, ◌∙◌, refl}
+use Prim.Native.Nat.{◌+◌}
+use mathlib.Core.Path.{◌∙◌, refl}
 use native.Mathlib.Omega.{arith}
-use lib.ListN.{length, get_or, length-set}
+use lib.ListN.{get_or, length-set}
 use Rattle.octets.specs.Table.{octets_at}
-use Rattle.octets.proofs.Fill.{Filled, fill_more, fill_done}
+use Rattle.octets.proofs.Fill.{fill_more, fill_done}
 use Rattle.octets.proofs.Read.{past_end}
 use Rattle.octets.proofs.read_into.Goals as goal
 

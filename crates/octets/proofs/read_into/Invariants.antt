@@ -1,11 +1,8 @@
 -- One law of loops that fill a list, at the bytes from index i on.
 use Prim.Native.Nat.{◌+◌, ◌-◌, min}
-use mathlib.Core.Path.{◌≡◌, ◌∙◌, refl}
-use native.Mathlib.Omega.{arith}
-use lib.ListN.{length, get_or, length-set}
-use Rattle.octets.specs.Table.{octets_at}
-use Rattle.octets.proofs.Fill.{Filled, fill_more, fill_done}
-use Rattle.octets.proofs.Read.{past_end}
+use mathlib.Core.Path.{◌≡◌}
+use lib.ListN.{length, get_or}
+use Rattle.octets.proofs.Fill.{Filled}
 use Rattle.octets.proofs.read_into.Given as goal
 
 abbrev pub invariant-loop-k : goal.invariant-loop-k

@@ -2,7 +2,6 @@
 use borrow.Author.Tests.{lt-ltb, le-ltb}
 use mir.Syntax.{w32}
 use Rattle.numbers.proofs.Complement.{lower_fits, lower}
-use borrow.Author.Rules.{rules}
 use Rattle.octets.proofs.to_i32.Goals as goal
 
 pub overflow_sub-result-else-x-lt2147483648 : goal.overflow_sub-result-else-x-lt2147483648

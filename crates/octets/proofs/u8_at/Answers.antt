@@ -1,7 +1,6 @@
 -- A byte past the end is read as 0.
 use mathlib.Core.Path.{sym}
 use lib.ListN.{get_or-eq_default}
-use borrow.Author.Rules.{rules}
 use Rattle.octets.proofs.u8_at.Goals as goal
 
 pub returns : goal.returns

@@ -1,9 +1,6 @@
 -- One law of loops that store bytes.
-use Prim.Native.Nat.{◌-◌, ◌≤◌, min}
-use mathlib.Core.Path.{◌≡◌}
 use native.Mathlib.Omega.{arith}
-use lib.ListN.{length}
-use Rattle.octets.proofs.Store.{Stored, store_none, store_more, store_done}
+use Rattle.octets.proofs.Store.{store_none, store_more, store_done}
 use Rattle.octets.proofs.write_into.Goals as goal
 
 pub least-from-requires : goal.least-from-requires

@@ -1,9 +1,6 @@
 -- The law of loops that read numbers, at two bytes each.
-use Prim.Native.Nat.{◌-◌}
 use native.Mathlib.Omega.{arith}
-use lib.ListN.{length}
-use Rattle.octets_runs.proofs.Numbers.{Reading, reading_none, reading_more, reading_done}
-use borrow.Author.Rules.{rules}
+use Rattle.octets_runs.proofs.Numbers.{reading_none, reading_more, reading_done}
 use Rattle.octets_runs.proofs.read_u16s_past.Goals as goal
 
 pub least-from-requires : goal.least-from-requires

@@ -1,12 +1,11 @@
 -- The law of loops that fill a list, at numbers of two bytes each.
-use Prim.Native.Nat.{ℕ, ◌+◌, ◌-◌, ◌*◌, ◌≤◌}
-use mathlib.Core.Path.{◌≡◌, refl, ap₂}
+use Prim.Native.Nat.{ℕ, ◌+◌, ◌*◌}
+use mathlib.Core.Path.{refl, ap₂}
 use native.Mathlib.Omega.{arith}
-use lib.ListN.{length, set, length-set}
+use lib.ListN.{length-set}
 use Rattle.octets.specs.Table.{nats_at}
-use Rattle.octets.proofs.Fill.{Filled, fill_more, fill_done}
+use Rattle.octets.proofs.Fill.{fill_more, fill_done}
 use Rattle.octets_runs.proofs.Numbers.{number_of}
-use borrow.Author.Rules.{rules}
 use Rattle.octets_runs.proofs.read_u16s_within.Goals as goal
 
 pub loop-k-init : goal.loop-k-init

@@ -1,12 +1,9 @@
 -- The law of loops that fill a list, at numbers of two bytes each.
-use Prim.Native.Nat.{ℕ, ◌+◌, ◌-◌, ◌*◌, ◌≤◌}
-use mathlib.Core.Path.{◌≡◌, refl, ap₂}
-use native.Mathlib.Omega.{arith}
-use lib.ListN.{length, set, length-set}
-use Rattle.octets.specs.Table.{nats_at}
-use Rattle.octets.proofs.Fill.{Filled, fill_more, fill_done}
+use Prim.Native.Nat.{◌+◌, ◌-◌, ◌*◌, ◌≤◌}
+use mathlib.Core.Path.{◌≡◌}
+use lib.ListN.{length}
+use Rattle.octets.proofs.Fill.{Filled}
 use Rattle.octets_runs.proofs.Numbers.{number_of}
-use borrow.Author.Rules.{rules}
 use Rattle.octets_runs.proofs.read_u16s_within.Given as goal
 
 abbrev pub invariant-loop-k : goal.invariant-loop-k

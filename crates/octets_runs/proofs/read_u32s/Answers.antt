@@ -1,6 +1,5 @@
 -- The test is what the reads that look at no end ask for.
 use mathlib.Core.Path.{sym, ◌∙◌}
-use borrow.Author.Rules.{rules}
 use borrow.Author.Tests.{leb-true}
 use Rattle.octets_runs.proofs.read_u32s.Goals as goal
 

@@ -1,9 +1,7 @@
 -- The law of loops that read numbers, at four bytes each.
 use Prim.Native.Nat.{◌-◌}
-use native.Mathlib.Omega.{arith}
 use lib.ListN.{length}
-use Rattle.octets_runs.proofs.Numbers.{Reading, reading_none, reading_more, reading_done}
-use borrow.Author.Rules.{rules}
+use Rattle.octets_runs.proofs.Numbers.{Reading}
 use Rattle.octets_runs.proofs.read_u32s_past.Given as goal
 
 abbrev pub invariant-loop-k : goal.invariant-loop-k

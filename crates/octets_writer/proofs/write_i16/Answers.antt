@@ -4,7 +4,6 @@ use mathlib.Core.Path.{ap, ◌∙◌}
 use mir.Syntax.{w16}
 use mir.ValLaws.{to_z-of_z}
 use Rattle.octets.specs.Bytes.{octets_of, complemented, put}
-use borrow.Author.Rules.{rules}
 use Rattle.octets_writer.proofs.write_i16.Goals as goal
 
 pub returns : goal.returns

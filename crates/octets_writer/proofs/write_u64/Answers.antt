@@ -1,7 +1,6 @@
 -- The bytes, stored.
 use mathlib.Core.Path.{ap, ◌∙◌}
 use Rattle.octets.specs.Bytes.{put}
-use borrow.Author.Rules.{rules}
 use Rattle.octets_writer.proofs.write_u64.Goals as goal
 
 pub returns : goal.returns

@@ -4,7 +4,6 @@ use mathlib.Core.Path.{sym, ap, ◌∙◌}
 use native.Mathlib.Omega.{arith}
 use lib.ListN.{length, take, drop, length-drop, drop_of_length-le}
 use lib.Seq.{take_all, take-nil}
-use borrow.Author.Rules.{rules}
 use Rattle.packet.proofs.carried.Goals as goal
 
 pub returns-then-n-lt-CARRIED_AT : goal.returns-then-n-lt-CARRIED_AT

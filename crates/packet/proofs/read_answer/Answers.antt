@@ -2,7 +2,6 @@
 use mathlib.Core.Path.{sym, ◌∙◌}
 use Rattle.octets.proofs.Ladder.{say_refused, say_answered}
 use Rattle.packet.specs.Fields.{fields_of}
-use borrow.Author.Rules.{rules}
 use Rattle.packet.proofs.read_answer.Goals as goal
 
 pub returns-then-n-ne0 : goal.returns-then-n-ne0

@@ -1,6 +1,5 @@
 -- Array by array, each from its own read.
 use Rattle.packet.specs.Fields.{arrays_of}
-use borrow.Author.Rules.{rules}
 use Rattle.packet.proofs.read_arrays.Goals as goal
 
 pub returns : goal.returns

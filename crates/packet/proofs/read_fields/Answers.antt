@@ -2,7 +2,6 @@
 use Prim.Native.Nat.{ℕ, ◌/◌, ◌%◌}
 use mathlib.Core.Path.{ap}
 use Rattle.packet.specs.Fields.{fields_of}
-use borrow.Author.Rules.{rules}
 use Rattle.packet.proofs.read_fields.Goals as goal
 
 pub returns : goal.returns

@@ -1,15 +1,14 @@
 -- The arrays, by what was said.
 use Prim.Native.Nat.{ℕ}
-use mathlib.Core.Path.{◌≡◌, sym, ap, ◌∙◌}
+use mathlib.Core.Path.{◌≡◌, sym, ◌∙◌}
 use mathlib.Core.List.{List}
 use Rattle.octets.specs.Refusal.{refused, answered}
 use Rattle.octets.proofs.Ladder.{answer_said, refusal_said, after_refused, after_done}
 use Rattle.packet_check.specs.Refusal.{read_refusal}
 use Rattle.packet.specs.Fields.{fields_of, arrays_of, no_arrays}
-use Rattle.packet.specs.Read.{packet_said, read_due, read_arrays}
+use Rattle.packet.specs.Read.{read_due, read_arrays}
 use Rattle.packet.specs.declared.PacketFields.{PacketFields}
 use Rattle.packet.specs.declared.PacketArrays.{PacketArrays}
-use borrow.Author.Rules.{rules}
 use Rattle.packet.proofs.read_packet.Goals as goal
 
 none : (s : List ℕ) (word n : ℕ) → refused n ≡ read_due s word → no_arrays ≡ read_arrays s word

@@ -1,5 +1,5 @@
 -- The two cases of the rule.
-use Rattle.std.proofs.Common.{rules, eq-eqb, ne_eqb}
+use Rattle.std.proofs.Common.{eq-eqb, ne_eqb}
 use Rattle.packet_bins.proofs.bin_byte.Goals as goal
 
 pub returns-then-j-eq0 : goal.returns-then-j-eq0

@@ -1,7 +1,7 @@
 -- One law of loops that fill a list, at the starts; no start wraps.
-use Rattle.std.proofs.Common.{◌≡◌, ℕ, ◌+◌, ◌-◌, ◌*◌, ◌<◌, refl, ap, arith}
-use Rattle.octets.proofs.Fill.{Filled, fill_more, fill_done}
-use Rattle.packet_bins.specs.Bins.{first_bin, bin_start, bin_starts}
+use Rattle.std.proofs.Common.{◌≡◌, ◌-◌, ◌<◌}
+use Rattle.octets.proofs.Fill.{Filled}
+use Rattle.packet_bins.specs.Bins.{first_bin, bin_start}
 use Rattle.packet_bins.proofs.bin_starts.Given as goal
 
 abbrev pub invariant-loop-j : goal.invariant-loop-j

@@ -1,5 +1,5 @@
 -- The wrapped sum less its lowest bit.
-use Rattle.std.proofs.Common.{arith, rules}
+use Rattle.std.proofs.Common.{arith}
 use Rattle.packet_bins.specs.Bins.{first_bin}
 use Rattle.packet_bins.proofs.first_bin.Goals as goal
 

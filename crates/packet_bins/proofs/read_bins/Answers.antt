@@ -1,6 +1,6 @@
 -- One law of loops that fill a list, at the bins.
-use Rattle.std.proofs.Common.{ℕ, ◌-◌, get_or, refl, ap, ◌∙◌, arith}
-use Rattle.octets.proofs.Fill.{Filled, fill_more, fill_done}
+use Rattle.std.proofs.Common.{ℕ, get_or, refl, ap, ◌∙◌, arith}
+use Rattle.octets.proofs.Fill.{fill_more, fill_done}
 use Rattle.packet_bins.specs.Bins.{bin_byte, bins_of}
 use Rattle.packet_bins.proofs.read_bins.Goals as goal
 

@@ -1,7 +1,7 @@
 -- One law of loops that fill a list, at the bins.
-use Rattle.std.proofs.Common.{ℕ, ◌-◌, get_or, refl, ap, ◌∙◌, arith}
-use Rattle.octets.proofs.Fill.{Filled, fill_more, fill_done}
-use Rattle.packet_bins.specs.Bins.{bin_byte, bins_of}
+use Rattle.std.proofs.Common.{◌-◌, get_or}
+use Rattle.octets.proofs.Fill.{Filled}
+use Rattle.packet_bins.specs.Bins.{bin_byte}
 use Rattle.packet_bins.proofs.read_bins.Given as goal
 
 abbrev pub invariant-loop-j : goal.invariant-loop-j

@@ -2,8 +2,6 @@
 use mathlib.Core.Path.{◌≡◌, sym, ◌∙◌}
 use mathlib.Core.Bool.{true}
 use native.Mathlib.Omega.{arith}
-use borrow.Author.Rules.{rules}
-use borrow.Author.Tests.{not-true, not-false}
 use Rattle.octets.proofs.Ladder.{pass, fail, rungs}
 use Rattle.packet_layout.specs.SumWord.{is_sum_word}
 use Rattle.packet_layout.proofs.SumWord.{sum_word_range}

@@ -8,7 +8,6 @@ use Rattle.octets.proofs.Ladder.{say_refused, after_refused, after_done, number_
 use Rattle.packet.specs.Fields.{fields_of, arrays_of, no_arrays}
 use Rattle.packet.specs.Read.{packet_said}
 use Rattle.packet_laws.proofs.WriteBack.{copy_refused, copy_number, copy_bytes}
-use borrow.Author.Rules.{rules}
 use Rattle.packet_laws.proofs.copy_packet.Goals as goal
 
 pub returns-in_default : goal.returns-in_default

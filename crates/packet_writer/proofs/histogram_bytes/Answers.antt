@@ -3,7 +3,7 @@ use Prim.Native.Nat.{ℕ, ◌-◌}
 use mathlib.Core.Path.{refl, ap}
 use native.Mathlib.Omega.{arith}
 use lib.ListN.{get_or}
-use Rattle.octets.proofs.Fill.{Filled, fill_more, fill_done}
+use Rattle.octets.proofs.Fill.{fill_more, fill_done}
 use Rattle.packet_bins.specs.Bins.{bin_byte}
 use Rattle.packet_writer.specs.Write.{histogram_of}
 use Rattle.packet_writer.proofs.histogram_bytes.Goals as goal

@@ -1,11 +1,8 @@
 -- One law of loops that fill a list, at the swapped bins.
-use Prim.Native.Nat.{ℕ, ◌-◌}
-use mathlib.Core.Path.{refl, ap}
-use native.Mathlib.Omega.{arith}
+use Prim.Native.Nat.{◌-◌}
 use lib.ListN.{get_or}
-use Rattle.octets.proofs.Fill.{Filled, fill_more, fill_done}
+use Rattle.octets.proofs.Fill.{Filled}
 use Rattle.packet_bins.specs.Bins.{bin_byte}
-use Rattle.packet_writer.specs.Write.{histogram_of}
 use Rattle.packet_writer.proofs.histogram_bytes.Given as goal
 
 abbrev pub invariant-loop-k : goal.invariant-loop-k

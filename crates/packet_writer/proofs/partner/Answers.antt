@@ -1,7 +1,6 @@
 -- The two cases of the rule.
 use borrow.Author.Tests.{eq-eqb, ne_eqb}
 use native.Mathlib.Omega.{arith}
-use borrow.Author.Rules.{rules}
 use Rattle.packet_writer.proofs.partner.Goals as goal
 
 pub returns-then-k-eq0 : goal.returns-then-k-eq0

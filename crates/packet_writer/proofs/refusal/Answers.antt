@@ -1,8 +1,6 @@
 -- Each return is one rung of the ladder.
 use mathlib.Core.Path.{◌≡◌, sym, ◌∙◌}
 use mathlib.Core.Bool.{true}
-use borrow.Author.Rules.{rules}
-use borrow.Author.Tests.{not-true, not-false}
 use Rattle.octets.proofs.Ladder.{pass, fail, rungs}
 use Rattle.packet_layout.specs.SumWord.{is_sum_word}
 use Rattle.packet_writer.specs.Write.{write_refusal}

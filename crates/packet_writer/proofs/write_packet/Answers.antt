@@ -4,7 +4,6 @@ use native.Mathlib.Omega.{arith}
 use Rattle.octets.proofs.Ladder.{say_refused, say_answered, after_refused, after_done}
 use Rattle.packet_writer.specs.Write.{packet_of}
 use Rattle.packet_writer.proofs.Accept.{Writable, writable, summed}
-use borrow.Author.Rules.{rules}
 use Rattle.packet_writer.proofs.write_packet.Goals as goal
 
 pub returns-then-n-ne0 : goal.returns-then-n-ne0
