@@ -30,13 +30,12 @@ only_waiting waiting e = refl
 pub returns-then-n-waits : goal.returns-then-n-waits
 unfolding described_all
 returns-then-n-waits c =
-    let t = c in
-    let a = t.args in
-    let none = eqb t.drain_refusal-n.result 0 in
-    let waits = t.waits.result in
+    let a = c.args in
+    let none = eqb c.drain_refusal-n.result 0 in
+    let waits = c.waits.result in
     let q = drain_waits a.session a.out.now a.store.now a.budget
-    (sym t.drain_refusal-n.ensures ∙ eqb-true _ _ (and_left none waits t.if-n-waits.true))
-    (only_waiting (turn a.session) (sym t.waits.ensures ∙ and_right none waits t.if-n-waits.true)) in
+    (sym c.drain_refusal-n.ensures ∙ eqb-true _ _ (and_left none waits c.if-n-waits.true))
+    (only_waiting (turn a.session) (sym c.waits.ensures ∙ and_right none waits c.if-n-waits.true)) in
     let k = drains_itself single (λ s. refl) (λ s. refl) a.session a.out.now a.store.now a.budget in
     let said : ◌≡◌ {A = Said (List Turn)} (answered []) _ = ap (λ (o : Outcome Session (List Turn)). o.said) (sym q) in
     drain_told (λ (x : Said (List Turn)). Drains a.session a.out.now a.store.now a.budget x a.session a.out.now)

@@ -7,7 +7,7 @@ use borrow.Author.Rules.{rules}
 use Rattle.reorder_c_answers.proofs.drained_count.Goals as goal
 
 pub returns-in-Refused : goal.returns-in-Refused
-returns-in-Refused c = ap (λ (a : DrainAnswer). drained_count (drain_said a)) (sym c.answer-1.given.1)
+returns-in-Refused c = ap (λ (a : DrainAnswer). drained_count (drain_said a)) (sym c.in-Refused.is)
 
 pub returns-in-Count : goal.returns-in-Count
-returns-in-Count c = ap (λ (a : DrainAnswer). drained_count (drain_said a)) (sym c.answer-in-Count-1.given.1)
+returns-in-Count c = ap (λ (a : DrainAnswer). drained_count (drain_said a)) (sym c.in-Count.is)

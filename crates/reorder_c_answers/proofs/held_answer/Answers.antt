@@ -7,7 +7,7 @@ use borrow.Author.Rules.{rules}
 use Rattle.reorder_c_answers.proofs.held_answer.Goals as goal
 
 pub returns-in-Refused : goal.returns-in-Refused
-returns-in-Refused c = ap (λ (a : OfferAnswer). held_answer (offer_said a)) (sym c.answer-1.given.1)
+returns-in-Refused c = ap (λ (a : OfferAnswer). held_answer (offer_said a)) (sym c.in-Refused.is)
 
 pub returns-in-Held : goal.returns-in-Held
-returns-in-Held c = ap (λ (a : OfferAnswer). held_answer (offer_said a)) (sym c.answer-in-Held-1.given.1)
+returns-in-Held c = ap (λ (a : OfferAnswer). held_answer (offer_said a)) (sym c.in-Held.is)

@@ -7,7 +7,7 @@ use borrow.Author.Rules.{rules}
 use Rattle.reorder_c_answers.proofs.passed_answer.Goals as goal
 
 pub returns-in-Refused : goal.returns-in-Refused
-returns-in-Refused c = ap (λ (a : PassAnswer). passed_answer (pass_said a)) (sym c.answer-1.given.1)
+returns-in-Refused c = ap (λ (a : PassAnswer). passed_answer (pass_said a)) (sym c.in-Refused.is)
 
 pub returns-in-Missing : goal.returns-in-Missing
-returns-in-Missing c = ap (λ (a : PassAnswer). passed_answer (pass_said a)) (sym c.answer-in-Missing-1.given.1)
+returns-in-Missing c = ap (λ (a : PassAnswer). passed_answer (pass_said a)) (sym c.in-Missing.is)

@@ -1,16 +1,11 @@
 -- A refusal's number, or the description.
+use Prim.Native.Nat.{ℕ}
 use mathlib.Core.Path.{◌≡◌, refl, sym, ap, ◌∙◌}
-use mathlib.Core.List.{[], ◌∷◌}
-use mathlib.Core.Logic.{inl, inr}
-use native.Mathlib.Omega.{arith}
-use types.Run.{OneOf}
-use denote.Enum.Declared.{tag_of}
 use Rattle.reorder_turn.specs.declared.Description.{Description}
 use Rattle.reorder_turn.specs.declared.ServeAnswer.{ServeAnswer}
 use Rattle.reorder_turn.specs.declared.ServeAnswer.TheVariants as Sv
 use Rattle.reorder_turn.specs.Answer.{serve_said}
 use Rattle.reorder_turn.specs.Described.{description_of}
-use Rattle.reorder_turn.specs.contracts.ServeAnswer.{the_type}
 use Rattle.reorder_c_answers.specs.declared.Answer.{Answer}
 use Rattle.reorder_c_answers.specs.Answers.{served_answer}
 use borrow.Author.Rules.{rules}
@@ -19,14 +14,14 @@ use Rattle.reorder_c_answers.proofs.served_answer.Goals as goal
 abbrev told : Description → Answer
 told d = record { refusal = 0; kind = d.kind; position = d.position }
 
-described_numbers : (a : ServeAnswer) → OneOf (1 ∷ 2 ∷ 3 ∷ []) (tag_of the_type a) → told (description_of (serve_said a)) ≡ served_answer (serve_said a)
-described_numbers (Sv.Refused n) h = absurd (elim h [ inl e ↦ omega arith | inr k ↦ elim k [ inl e ↦ omega arith | inr e ↦ omega arith ] ])
+described_numbers : (a : ServeAnswer) → ((n : ℕ) → a ≡ Sv.Refused n → ⊥) → told (description_of (serve_said a)) ≡ served_answer (serve_said a)
+described_numbers (Sv.Refused n) h = absurd (h n refl)
 described_numbers (Sv.Packet p) h = refl
 described_numbers (Sv.Missing p) h = refl
 described_numbers Sv.Waiting h = refl
 
 pub returns-in-Refused : goal.returns-in-Refused
-returns-in-Refused c = ap (λ (a : ServeAnswer). served_answer (serve_said a)) (sym c.answer-1.given.1)
+returns-in-Refused c = ap (λ (a : ServeAnswer). served_answer (serve_said a)) (sym c.in-Refused.is)
 
 pub returns : goal.returns
-returns c = ap told c.describe-description.ensures ∙ described_numbers c.args.answer c.in_default.keys2
+returns c = ap told c.describe-description.ensures ∙ described_numbers c.args.answer c.in_default.not-Refused

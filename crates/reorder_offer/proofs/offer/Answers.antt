@@ -13,19 +13,17 @@ pub returns-in_default : goal.returns-in_default
 unfolding offer_of
 returns-in_default c =
     let j = c.offer_answer-answer.ensures in
-    let e = ap offer_said (sym c.enum_told-1.given.1) ∙ j in
-    comes_by (stays _ _ _ _ _ _ e) (ap offer_said c.enum_told-1.given.1) refl refl
+    let e = ap offer_said (sym c.in_default.is) ∙ j in
+    comes_by (stays _ _ _ _ _ _ e) (ap offer_said c.in_default.is) refl refl
 
 pub put_packet-requires : goal.put_packet-requires
 put_packet-requires c =
-    let e = ap offer_said (sym c.answer-1.given.1) ∙ c.offer_answer-answer.ensures in
+    let e = ap offer_said (sym c.in-Held.is) ∙ c.offer_answer-answer.ensures in
     (accepted _ _ (taken_offer single _ _ _ _ (sym e)).read).size
 
 pub returns : goal.returns
 unfolding offer_of
 returns c =
-    let w = c in
-    let a = w.before.before.before in
-    let e = ap offer_said (sym a.answer-1.given.1) ∙ a.offer_answer-answer.ensures in
-    let s = a.args.session in
-    leaves _ _ _ _ _ _ _ _ e (c.with_window.ensures ∙ ap (with_window s) c.hold-window.ensures) w.put_packet.ensures
+    let e = ap offer_said (sym c.in-Held.is) ∙ c.offer_answer-answer.ensures in
+    let s = c.args.session in
+    leaves _ _ _ _ _ _ _ _ e (c.with_window.ensures ∙ ap (with_window s) c.hold-window.ensures) c.put_packet.ensures

@@ -9,8 +9,7 @@ use Rattle.reorder_offer.proofs.open.Goals as goal
 pub returns : goal.returns
 returns c =
     let o = c.open_or in
-    let k = c in
-    let a = k.args in
+    let a = c.args in
     subst
-    (λ (s : Session). Opens s a.store.now a.packet.now a.threshold a.sum_word (offer_said o.result.answer) o.result.session o.new.1.0)
-    k.no_session.ensures o.ensures
+    (λ (s : Session). Opens s a.store.now a.packet.now a.threshold a.sum_word (offer_said o.result.answer) o.result.session o.new.store)
+    c.no_session.ensures o.ensures

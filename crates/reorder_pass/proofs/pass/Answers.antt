@@ -14,9 +14,6 @@ use Rattle.reorder_session.proofs.Whole.{whole, fit, unfit}
 use borrow.Author.Rules.{rules}
 use Rattle.reorder_pass.proofs.pass.Goals as goal
 
-unbroken : (c : goal.Else-is_broken) → broken c.args.session ≡ false
-unbroken c = sym c.is_broken.ensures ∙ c.if-is_broken.false
-
 pub returns-then-is_broken : goal.returns-then-is_broken
 unfolding pass_of pass_refusal
 returns-then-is_broken c =
@@ -27,26 +24,23 @@ pub returns-then-next-eq-END_POSITION : goal.returns-then-next-eq-END_POSITION
 unfolding pass_of pass_refusal
 returns-then-next-eq-END_POSITION c =
     let n : 28 ≡ pass_refusal single c.args.session =
-    then_pass _ _ 28 (fit _ (unbroken c.before.before.before)) (fail _ 28 _ (ap not (eq-eqb _ _ c.if-next-eq-END_POSITION.true))) in
+    then_pass _ _ 28 (fit _ (sym c.is_broken.ensures ∙ c.if-is_broken.false)) (fail _ 28 _ (ap not (eq-eqb _ _ c.if-next-eq-END_POSITION.true))) in
     stays _ _ _ _ _ _ (say_refused _ _ _ n (λ q. omega arith))
 
 pub returns-then-is_start_held : goal.returns-then-is_start_held
 unfolding pass_of pass_refusal
 returns-then-is_start_held c =
-    let k = c in
     let held = sym c.is_start_held.ensures ∙ c.if-is_start_held.true in
-    let n : 26 ≡ pass_refusal single k.args.session =
-    then_pass _ _ 26 (fit _ (unbroken k.before.before)) (pass _ 28 _ 26 (ap not (ne_eqb _ _ k.if-next-eq-END_POSITION.false)) (fail _ 26 _ (ap not held))) in
+    let n : 26 ≡ pass_refusal single c.args.session =
+    then_pass _ _ 26 (fit _ (sym c.is_broken.ensures ∙ c.if-is_broken.false)) (pass _ 28 _ 26 (ap not (ne_eqb _ _ c.if-next-eq-END_POSITION.false)) (fail _ 26 _ (ap not held))) in
     stays _ _ _ _ _ _ (say_refused _ _ _ n (λ q. omega arith))
 
 pub returns : goal.returns
 unfolding pass_of pass_refusal
 returns c =
-    let h = c in
-    let k = h.before in
-    let s = k.args.session in
-    let free = sym h.is_start_held.ensures ∙ c.if-is_start_held.false in
+    let s = c.args.session in
+    let free = sym c.is_start_held.ensures ∙ c.if-is_start_held.false in
     let n : 0 ≡ pass_refusal single s =
-    then_pass _ _ 0 (fit _ (unbroken k.before.before)) (pass _ 28 _ 0 (ap not (ne_eqb _ _ k.if-next-eq-END_POSITION.false)) (pass _ 26 _ 0 (ap not free) refl)) in
-    let small = has_32_bits (skipped s.window) (omega (arith, (whole _ (unbroken k.before.before)).next_most)) in
+    then_pass _ _ 0 (fit _ (sym c.is_broken.ensures ∙ c.if-is_broken.false)) (pass _ 28 _ 0 (ap not (ne_eqb _ _ c.if-next-eq-END_POSITION.false)) (pass _ 26 _ 0 (ap not free) refl)) in
+    let small = has_32_bits (skipped s.window) (omega (arith, (whole _ (sym c.is_broken.ensures ∙ c.if-is_broken.false)).next_most)) in
     leaves _ [] _ _ _ _ _ [] (say_answered _ _ _ (sym n) refl) (c.with_window.ensures ∙ ap (with_window s) (c.skip.ensures ∙ small)) refl

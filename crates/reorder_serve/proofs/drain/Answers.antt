@@ -18,10 +18,6 @@ use Rattle.reorder_serve.proofs.Reading.{reported}
 use borrow.Author.Rules.{rules}
 use Rattle.reorder_serve.proofs.drain.Goals as goal
 
-passes : (c : goal.Else-n-ne0) → let a = c.args in
-    drain_refusal a.session (length a.store.now) (length a.out.now) a.budget ≡ 0
-passes c = sym c.drain_refusal-n.ensures ∙ c.if-n-ne0.false
-
 pub returns-then-n-ne0 : goal.returns-then-n-ne0
 unfolding drain_of
 returns-then-n-ne0 c =
@@ -32,19 +28,19 @@ returns-then-n-ne0 c =
 
 pub run-requires : goal.run-requires
 run-requires c =
-    let r = drain_ready single _ _ _ _ (passes c.before.before) in
-    ((whole_fit _ r.fit).next_most, (r.store, r.most))
+    let a = c.args in
+    let r = drain_ready single a.session (length a.store.now) (length a.out.now) a.budget (sym c.drain_refusal-n.ensures ∙ c.if-n-ne0.false) in
+    record { start_le_end_position = (whole_fit _ r.fit).next_most; store_len = r.store; budget_le_positions = r.most }
 
 pub returns : goal.returns
 unfolding drain_of
 returns c =
     let g = c.run in
     let r = g.ensures in
-    let p = c in
-    let a = p.args in
+    let a = c.args in
     let ts = turns a.budget a.session in
-    let k = leaves _ _ _ _ ts _ _ _ (say_answered _ ts _ (passes p) refl) r.1.1.0 r.1.1.1 in
-    reported (λ (x : Said (List Turn)). Drains a.session a.out.now a.store.now a.budget x g.result.session g.new.1.0) _
+    let k = leaves _ _ _ _ ts _ _ _ (say_answered _ ts _ (sym c.drain_refusal-n.ensures ∙ c.if-n-ne0.false) refl) r.1.1.0 r.1.1.1 in
+    reported (λ (x : Said (List Turn)). Drains a.session a.out.now a.store.now a.budget x g.result.session g.new.out) _
     (answered ts)
     (record {
       comes = k;

@@ -12,12 +12,6 @@ use Rattle.reorder_session.proofs.Whole.{whole_fit}
 use borrow.Author.Rules.{rules}
 use Rattle.reorder_serve.proofs.serve.Goals as goal
 
-passes : (c : goal.After-slice_known-2-1) → let a = c.args in serve_refusal a.session (length a.store.now) (length a.out.now) ≡ 0
-passes c = sym c.serve_refusal-n.ensures ∙ c.if-n-ne0.false
-
-ready : (c : goal.After-step-arg-1) → let a = c.args in ServeReady single a.session (length a.store.now) (length a.out.now)
-ready c = serve_ready single _ _ _ (passes c)
-
 pub returns-then-n-ne0 : goal.returns-then-n-ne0
 unfolding serve_of
 returns-then-n-ne0 c =
@@ -26,13 +20,13 @@ returns-then-n-ne0 c =
 
 pub step-requires : goal.step-requires
 step-requires c =
-    let r = ready c in
-    (omega (arith, (whole_fit _ r.fit).next_most), r.store)
+    let a = c.args in
+    let r = serve_ready single a.session (length a.store.now) (length a.out.now) (sym c.serve_refusal-n.ensures ∙ c.if-n-ne0.false) in
+    record { start_bound = omega (arith, (whole_fit _ r.fit).next_most); store_len = r.store }
 
 pub returns : goal.returns
 unfolding serve_of
 returns c =
     let e = c.step.ensures in
-    let k = c in
-    let a = k.args in
-    comes_by (leaves _ _ _ _ _ _ _ _ (say_answered _ (turn a.session) _ (passes k) refl) e.1.0 e.1.1) e.0 refl refl
+    let a = c.args in
+    comes_by (leaves _ _ _ _ _ _ _ _ (say_answered _ (turn a.session) _ (sym c.serve_refusal-n.ensures ∙ c.if-n-ne0.false) refl) e.1.0 e.1.1) e.0 refl refl

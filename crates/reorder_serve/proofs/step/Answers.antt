@@ -25,35 +25,27 @@ did s i store out t s' out' e a b = (ap answered (sym e), (a ∙ ap (turned s) (
 part_is : (i n : ℕ) (s : List ℕ) → take ((i + n) - i) (drop i s) ≡ part s i n
 part_is i n s = let e : (i + n) - i ≡ n = omega arith in ap (λ (k : ℕ). take k (drop i s)) e
 
-free : (c : goal.Else-is_start_held) → let w = c.args.session.window in held_at w w.start ≡ false
-free c = sym c.is_start_held.ensures ∙ c.if-is_start_held.false
-
 pub returns-then-is_start_held : goal.returns-then-is_start_held
 returns-then-is_start_held c =
-    let w = c in
-    let t = w.before.before.before in
-    let k = t.before.before.before.before.before in
-    let a = k.args in
+    let a = c.args in
     let s = a.session in
     let from = slot_start s.window.start in
     did s a.i a.store.now a.out.now _ _ _
-    (turn_packet single s (sym t.is_start_held.ensures ∙ t.if-is_start_held.true))
-    (c.with_window.ensures ∙ ap (with_window s) (c.free.ensures ∙ has_32_bits (freed s.window) (omega (arith, k.requires.0))))
-    (w.write_into.ensures ∙ ap (put a.out.now (1080 * a.i)) (part_is from 1080 a.store.now))
+    (turn_packet single s (sym c.is_start_held.ensures ∙ c.if-is_start_held.true))
+    (c.with_window.ensures ∙ ap (with_window s) (c.free.ensures ∙ has_32_bits (freed s.window) (omega (arith, c.requires.start_bound))))
+    (c.write_into.ensures ∙ ap (put a.out.now (1080 * a.i)) (part_is from 1080 a.store.now))
 
 pub returns-then-is_held_ahead : goal.returns-then-is_held_ahead
 returns-then-is_held_ahead c =
-    let h = c in
-    let k = h.before.before.before.before.before.before in
-    let a = k.args in
+    let a = c.args in
     let s = a.session in
     did s a.i a.store.now a.out.now _ _ _
-    (turn_missing single s (free h.before) (sym h.is_held_ahead.ensures ∙ c.if-is_held_ahead.true))
-    (c.with_window-then-is_held_ahead.ensures ∙ ap (with_window s) (c.skip.ensures ∙ has_32_bits (skipped s.window) (omega (arith, k.requires.0)))) refl
+    (turn_missing single s (sym c.is_start_held.ensures ∙ c.if-is_start_held.false) (sym c.is_held_ahead.ensures ∙ c.if-is_held_ahead.true))
+    (c.with_window-then-is_held_ahead.ensures ∙ ap (with_window s) (c.skip.ensures ∙ has_32_bits (skipped s.window) (omega (arith, c.requires.start_bound)))) refl
 
 pub returns : goal.returns
 returns c =
     let a = c.args in
     did a.session a.i a.store.now a.out.now _ _ _
-    (turn_waiting single a.session (free (goal.at.returns c).Else-is_start_held) (sym c.is_held_ahead.ensures ∙ c.if-is_held_ahead.false))
+    (turn_waiting single a.session (sym c.is_start_held.ensures ∙ c.if-is_start_held.false) (sym c.is_held_ahead.ensures ∙ c.if-is_held_ahead.false))
     refl refl

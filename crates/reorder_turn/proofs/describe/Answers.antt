@@ -7,13 +7,13 @@ use borrow.Author.Rules.{rules}
 use Rattle.reorder_turn.proofs.describe.Goals as goal
 
 pub returns-in-Refused : goal.returns-in-Refused
-returns-in-Refused c = ap (λ (a : ServeAnswer). description_of (serve_said a)) (sym c.enum_told-1.given.1)
+returns-in-Refused c = ap (λ (a : ServeAnswer). description_of (serve_said a)) (sym c.in-Refused.is)
 
 pub returns-in-Packet : goal.returns-in-Packet
-returns-in-Packet c = ap (λ (a : ServeAnswer). description_of (serve_said a)) (sym c.answer-1.given.1)
+returns-in-Packet c = ap (λ (a : ServeAnswer). description_of (serve_said a)) (sym c.in-Packet.is)
 
 pub returns-in-Missing : goal.returns-in-Missing
-returns-in-Missing c = ap (λ (a : ServeAnswer). description_of (serve_said a)) (sym c.answer-in-Missing-1.given.1)
+returns-in-Missing c = ap (λ (a : ServeAnswer). description_of (serve_said a)) (sym c.in-Missing.is)
 
 pub returns-in-Waiting : goal.returns-in-Waiting
-returns-in-Waiting c = ap (λ (a : ServeAnswer). description_of (serve_said a)) (sym c.enum_told-in-Waiting-1.given.1)
+returns-in-Waiting c = ap (λ (a : ServeAnswer). description_of (serve_said a)) (sym c.in-Waiting.is)

@@ -8,21 +8,18 @@ use Rattle.reorder_rules.specs.Serve.{serve_refusal}
 use borrow.Author.Rules.{rules}
 use Rattle.reorder_turn.proofs.serve_refusal.Goals as goal
 
-fits : (c : goal.Else-is_broken) → single.unfit c.args.session ≡ 0
-fits c = fit _ (sym c.is_broken.ensures ∙ c.if-is_broken.false)
-
 pub returns-then-is_broken : goal.returns-then-is_broken
 unfolding serve_refusal
 returns-then-is_broken c = then_fail _ _ 30 (unfit _ (sym c.is_broken.ensures ∙ c.if-is_broken.true)) (λ q. omega arith)
 
 pub returns-then-store_size-ne-STORE_SIZE : goal.returns-then-store_size-ne-STORE_SIZE
 unfolding serve_refusal
-returns-then-store_size-ne-STORE_SIZE c = then_pass _ _ _ (fits c.before.before) (search rungs depth 10)
+returns-then-store_size-ne-STORE_SIZE c = then_pass _ _ _ (fit _ (sym c.is_broken.ensures ∙ c.if-is_broken.false)) (search rungs depth 10)
 
 pub returns-then-out_size-lt-PACKET_SIZE : goal.returns-then-out_size-lt-PACKET_SIZE
 unfolding serve_refusal
-returns-then-out_size-lt-PACKET_SIZE c = then_pass _ _ _ (fits c.before.before.before) (search rungs depth 10)
+returns-then-out_size-lt-PACKET_SIZE c = then_pass _ _ _ (fit _ (sym c.is_broken.ensures ∙ c.if-is_broken.false)) (search rungs depth 10)
 
 pub returns : goal.returns
 unfolding serve_refusal
-returns c = then_pass _ _ _ (fits c.before.before.before) (search rungs depth 10)
+returns c = then_pass _ _ _ (fit _ (sym c.is_broken.ensures ∙ c.if-is_broken.false)) (search rungs depth 10)
