@@ -7,5 +7,5 @@ pub returns : goal.returns
 returns c =
     let d = c.drain.ensures in
     let f = c.offer-offered.ensures in
-    let o = c.before.before.before.before.before.before.before.before.before.before.before.before.«open».ensures in
+    let o = c.open-opened.ensures in
     (short _ _ _ _ _ _ o f d.0, d.1)

@@ -5,5 +5,5 @@ use Rattle.reorder_steps.proofs.open_start.Goals as goal
 
 pub returns : goal.returns
 returns c =
-    let e = c.before.before.before.«open».ensures in
+    let e = c.«open».ensures in
     (e, open_start _ _ e)
