@@ -1,15 +1,9 @@
 -- One law of loops that fill a list, at the class of each shot.
-use Prim.Native.Nat.{ℕ, ◌-◌}
 use mathlib.Core.Path.{refl, ap, ◌∙◌}
-use mathlib.Core.List.{List}
 use native.Mathlib.Omega.{arith}
-use Rattle.layout.specs.Column.{item}
-use Rattle.pedr_layout.specs.Layout.{class}
 use Rattle.pedr_flags.specs.Class.{class_of}
-use Rattle.pedr_arrays.specs.Arrays.{shot_class, classes_of}
-use Rattle.pedr_arrays.specs.declared.ShotClass.{ShotClass}
-use Rattle.octets.proofs.Fill.{Filled, fill_more, fill_done}
-use borrow.Author.Rules.{rules}
+use Rattle.pedr_arrays.specs.Arrays.{classes_of}
+use Rattle.octets.proofs.Fill.{fill_more, fill_done}
 use Rattle.pedr_arrays.proofs.read_classes.Invariants.{class_at}
 use Rattle.pedr_arrays.proofs.read_classes.Goals as goal
 

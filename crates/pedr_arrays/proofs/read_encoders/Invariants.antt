@@ -1,17 +1,11 @@
 -- One law of loops that fill a list, at the encoder bits of each shot.
-use Prim.Native.Nat.{ℕ, ◌+◌, ◌-◌}
-use mathlib.Core.Path.{refl, sym, ap, ◌∙◌}
+use Prim.Native.Nat.{ℕ, ◌-◌}
 use mathlib.Core.List.{List}
-use native.Mathlib.Omega.{arith}
-use native.Mathlib.Nat.{one-mul}
-use lib.ListN.{get_or}
 use Rattle.layout.specs.Column.{item}
 use Rattle.pedr_layout.specs.Layout.{encoder}
 use Rattle.pedr_flags.specs.Encoder.{encoder_of}
 use Rattle.pedr_flags.specs.declared.Encoder.{Encoder}
-use Rattle.pedr_arrays.specs.Arrays.{encoders_of}
-use Rattle.octets.proofs.Fill.{Filled, fill_more, fill_done}
-use borrow.Author.Rules.{rules}
+use Rattle.octets.proofs.Fill.{Filled}
 use Rattle.pedr_arrays.proofs.read_encoders.Given as goal
 
 abbrev pub encoder_at : List ℕ → ℕ → Encoder

@@ -1,6 +1,5 @@
 -- Array by array, each from its own read.
 use Rattle.pedr_arrays.specs.Arrays.{shot_arrays_of}
-use borrow.Author.Rules.{rules}
 use Rattle.pedr_arrays.proofs.read_shot_arrays.Goals as goal
 
 pub returns : goal.returns

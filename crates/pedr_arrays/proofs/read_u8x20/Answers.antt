@@ -1,7 +1,6 @@
 -- Bytes are numbers of one byte each.
 use mathlib.Core.Path.{◌∙◌}
 use Rattle.octets.proofs.Fill.{octets_numbers}
-use borrow.Author.Rules.{rules}
 use Rattle.pedr_arrays.proofs.read_u8x20.Goals as goal
 
 pub returns : goal.returns

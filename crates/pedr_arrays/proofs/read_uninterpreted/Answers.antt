@@ -1,7 +1,7 @@
 -- Two copies, one behind the other.
 use mathlib.Core.Path.{◌≡◌, refl, ap, ◌∙◌}
 use mathlib.Core.List.{List, ◌++◌}
-use Prim.Native.Nat.{ℕ, ◌+◌}
+use Prim.Native.Nat.{ℕ}
 use native.Mathlib.Omega.{arith}
 use lib.ListN.{length, length-append}
 use Rattle.octets.specs.Bytes.{put}
@@ -9,7 +9,6 @@ use Rattle.octets.specs.Table.{octets_at}
 use Rattle.octets.proofs.Store.{put_then, put_whole}
 use Rattle.octets.proofs.Fill.{octets_count}
 use Rattle.pedr_arrays.specs.Uninterpreted.{uninterpreted_of}
-use borrow.Author.Rules.{rules}
 use Rattle.pedr_arrays.proofs.read_uninterpreted.Goals as goal
 
 -- two stores that fill a list of 220

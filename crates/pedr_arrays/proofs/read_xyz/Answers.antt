@@ -3,7 +3,6 @@ use mathlib.Core.List.{[], ◌∷◌}
 use mir.Syntax.{w32}
 use Rattle.numbers.proofs.Ranges.{held}
 use Rattle.octets.specs.Table.{ints_at}
-use borrow.Author.Rules.{rules}
 use Rattle.pedr_arrays.proofs.read_xyz.Goals as goal
 
 pub returns : goal.returns
