@@ -1,6 +1,5 @@
 -- Group by group.
 use Rattle.pedr_fields.specs.Fields.{fields_of}
-use borrow.Author.Rules.{rules}
 use Rattle.pedr_fields.proofs.read_fields.Goals as goal
 
 pub returns : goal.returns

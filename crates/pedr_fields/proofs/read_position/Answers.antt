@@ -2,7 +2,6 @@
 use mir.Syntax.{w32}
 use Rattle.numbers.proofs.Ranges.{held}
 use Rattle.pedr_fields.specs.Fields.{position_of}
-use borrow.Author.Rules.{rules}
 use Rattle.pedr_fields.proofs.read_position.Goals as goal
 
 pub returns : goal.returns

@@ -1,6 +1,5 @@
 -- Field by field, each from its own read.
 use Rattle.pedr_fields.specs.Fields.{ranges_of}
-use borrow.Author.Rules.{rules}
 use Rattle.pedr_fields.proofs.read_ranges.Goals as goal
 
 pub returns : goal.returns

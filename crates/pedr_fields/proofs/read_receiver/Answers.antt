@@ -1,6 +1,5 @@
 -- Field by field, each from its own read.
 use Rattle.pedr_fields.specs.Fields.{receiver_of}
-use borrow.Author.Rules.{rules}
 use Rattle.pedr_fields.proofs.read_receiver.Goals as goal
 
 pub returns : goal.returns

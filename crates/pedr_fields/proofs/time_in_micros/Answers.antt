@@ -18,29 +18,29 @@ product x f = subst (Range 2147483648000000) (*ℤ_comm (pos 1000000) x) (of_mul
 total : (x y : ℤ) → SFits w32 x → SFits w32 y → Range 2147485795483648 (x *ℤ pos 1000000 +ℤ y)
 total x y f g = of_sum (product x f) (of_width w32 y g)
 
-whole_fits : (c : goal.Start) → SFits w32 c.args.time.whole
-whole_fits c = search rules
-
-micros_fits : (c : goal.After-struct_told-2-1) → SFits w32 c.args.time.micros
-micros_fits c = search rules
-
 pub overflow_cast-whole : goal.overflow_cast-whole
-overflow_cast-whole c = sfits_widen tt (reread (whole_fits c.before.before.before))
+overflow_cast-whole c =
+    let w : SFits w32 c.args.time.whole = search rules in
+    sfits_widen tt (reread w)
 
 pub overflow_cast-micros : goal.overflow_cast-micros
-overflow_cast-micros c = sfits_widen tt (reread (micros_fits c))
+overflow_cast-micros c =
+    let m : SFits w32 c.args.time.micros = search rules in
+    sfits_widen tt (reread m)
 
 pub overflow_mul-result : goal.overflow_mul-result
-overflow_mul-result c = simp (kept _ (whole_fits c.before.before.before.before.before)) (in_width w64 tt (product _ (whole_fits c.before.before.before.before.before)))
+overflow_mul-result c =
+    let w : SFits w32 c.args.time.whole = search rules in
+    simp (kept _ w) (in_width w64 tt (product _ w))
 
 pub overflow_add-result : goal.overflow_add-result
 overflow_add-result c =
-    let w = whole_fits c.before.before.before.before.before in
-    let m = micros_fits c in
+    let w : SFits w32 c.args.time.whole = search rules in
+    let m : SFits w32 c.args.time.micros = search rules in
     simp (kept _ w, kept _ m, exact w64 tt (product _ w)) (in_width w64 tt (total _ _ w m))
 
 pub returns : goal.returns
 returns c =
-    let w = whole_fits c.before.before.before.before.before in
-    let m = micros_fits c in
+    let w : SFits w32 c.args.time.whole = search rules in
+    let m : SFits w32 c.args.time.micros = search rules in
     simp (kept _ w, kept _ m, exact w64 tt (product _ w), exact w64 tt (total _ _ w m))
