@@ -3,37 +3,36 @@ use mathlib.Core.Path.{sym, ap, ◌∙◌}
 use Rattle.pedr_layout.proofs.Frames.{at_1, at_2, at_3, at_4, at_5, at_6, at_rest}
 use Rattle.pedr_block.specs.Block.{block_of}
 use Rattle.pedr_block.specs.declared.Block.TheVariants.{Frame1, Frame2, Frame3, Frame5, Frame6, Frame7}
-use borrow.Author.Rules.{rules}
 use Rattle.pedr_block.proofs.read_block.Goals as goal
 
 pub returns-in-1 : goal.returns-in-1
 unfolding block_of
-returns-in-1 c = ap Frame1 c.read_frame_1.ensures ∙ sym (at_1 _ _ _ _ _ _ _ _ (sym c.u16_at-frame.ensures ∙ c.in-1.keys1))
+returns-in-1 c = ap Frame1 c.read_frame_1.ensures ∙ sym (at_1 _ _ _ _ _ _ _ _ (sym c.u16_at-frame.ensures ∙ c.in-1.is))
 
 pub returns-in-2 : goal.returns-in-2
 unfolding block_of
-returns-in-2 c = ap Frame2 c.read_frame_2.ensures ∙ sym (at_2 _ _ _ _ _ _ _ _ (sym c.u16_at-frame.ensures ∙ c.in-2.keys2))
+returns-in-2 c = ap Frame2 c.read_frame_2.ensures ∙ sym (at_2 _ _ _ _ _ _ _ _ (sym c.u16_at-frame.ensures ∙ c.in-2.is))
 
 pub returns-in-3 : goal.returns-in-3
 unfolding block_of
-returns-in-3 c = ap Frame3 c.read_frame_3.ensures ∙ sym (at_3 _ _ _ _ _ _ _ _ (sym c.u16_at-frame.ensures ∙ c.in-3.keys3))
+returns-in-3 c = ap Frame3 c.read_frame_3.ensures ∙ sym (at_3 _ _ _ _ _ _ _ _ (sym c.u16_at-frame.ensures ∙ c.in-3.is))
 
 pub returns-in-4 : goal.returns-in-4
 unfolding block_of
-returns-in-4 c = sym (at_4 _ _ _ _ _ _ _ _ (sym c.u16_at-frame.ensures ∙ c.in-4.keys4))
+returns-in-4 c = sym (at_4 _ _ _ _ _ _ _ _ (sym c.u16_at-frame.ensures ∙ c.in-4.is))
 
 pub returns-in-5 : goal.returns-in-5
 unfolding block_of
-returns-in-5 c = ap Frame5 c.read_frame_5.ensures ∙ sym (at_5 _ _ _ _ _ _ _ _ (sym c.u16_at-frame.ensures ∙ c.in-5.keys5))
+returns-in-5 c = ap Frame5 c.read_frame_5.ensures ∙ sym (at_5 _ _ _ _ _ _ _ _ (sym c.u16_at-frame.ensures ∙ c.in-5.is))
 
 pub returns-in-6 : goal.returns-in-6
 unfolding block_of
-returns-in-6 c = ap Frame6 c.read_frame_6.ensures ∙ sym (at_6 _ _ _ _ _ _ _ _ (sym c.u16_at-frame.ensures ∙ c.in-6.keys6))
+returns-in-6 c = ap Frame6 c.read_frame_6.ensures ∙ sym (at_6 _ _ _ _ _ _ _ _ (sym c.u16_at-frame.ensures ∙ c.in-6.is))
 
 pub returns-in_default : goal.returns-in_default
 unfolding block_of
 returns-in_default c =
-    let r = c.in_default.rest in
+    let r = c.in_default.in_default-own.rest in
     let e = c.u16_at-frame.ensures in
     ap Frame7 c.read_frame_7.ensures
     ∙ sym (at_rest _ _ _ _ _ _ _ _ (λ z. r.0.0.0.0.0.1 (e ∙ z)) (λ z. r.0.0.0.0.1 (e ∙ z)) (λ z. r.0.0.0.1 (e ∙ z)) (λ z. r.0.0.1 (e ∙ z)) (λ z. r.0.1 (e ∙ z)) (λ z. r.1 (e ∙ z)))

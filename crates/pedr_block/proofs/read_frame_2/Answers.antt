@@ -2,7 +2,6 @@
 use mir.Syntax.{w16}
 use Rattle.numbers.proofs.Ranges.{held}
 use Rattle.pedr_block.specs.Frames.{frame2_of}
-use borrow.Author.Rules.{rules}
 use Rattle.pedr_block.proofs.read_frame_2.Goals as goal
 
 pub returns : goal.returns

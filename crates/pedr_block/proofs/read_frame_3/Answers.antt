@@ -1,6 +1,5 @@
 -- Field by field, each from its own read.
 use Rattle.pedr_block.specs.Frames.{frame3_of}
-use borrow.Author.Rules.{rules}
 use Rattle.pedr_block.proofs.read_frame_3.Goals as goal
 
 pub returns : goal.returns

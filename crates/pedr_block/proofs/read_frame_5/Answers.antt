@@ -1,6 +1,5 @@
 -- Field by field, each from its own read.
 use Rattle.pedr_block.specs.Frames.{frame5_of}
-use borrow.Author.Rules.{rules}
 use Rattle.pedr_block.proofs.read_frame_5.Goals as goal
 
 pub returns : goal.returns
