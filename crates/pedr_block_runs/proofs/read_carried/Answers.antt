@@ -2,37 +2,36 @@
 use mathlib.Core.Path.{sym, ap, ◌∙◌}
 use Rattle.pedr_layout.proofs.Frames.{at_1, at_2, at_3, at_4, at_5, at_6, at_rest}
 use Rattle.pedr_block_runs.specs.Carried.{carried_by, carried_of}
-use borrow.Author.Rules.{rules}
 use Rattle.pedr_block_runs.proofs.read_carried.Goals as goal
 
 pub returns-in-1 : goal.returns-in-1
 unfolding carried_of carried_by
-returns-in-1 c = ap (carried_by c.args.bytes.now) (sym (at_1 _ _ _ _ _ _ _ _ (sym c.u16_at-frame.ensures ∙ c.in-1.keys1)))
+returns-in-1 c = ap (carried_by c.args.bytes.now) (sym (at_1 _ _ _ _ _ _ _ _ (sym c.u16_at-frame.ensures ∙ c.in-1.is)))
 
 pub returns-in-2 : goal.returns-in-2
 unfolding carried_of carried_by
-returns-in-2 c = ap (carried_by c.args.bytes.now) (sym (at_2 _ _ _ _ _ _ _ _ (sym c.u16_at-frame.ensures ∙ c.in-2.keys2)))
+returns-in-2 c = ap (carried_by c.args.bytes.now) (sym (at_2 _ _ _ _ _ _ _ _ (sym c.u16_at-frame.ensures ∙ c.in-2.is)))
 
 pub returns-in-3 : goal.returns-in-3
 unfolding carried_of
-returns-in-3 c = c.read_carried_3.ensures ∙ ap (carried_by c.args.bytes.now) (sym (at_3 _ _ _ _ _ _ _ _ (sym c.u16_at-frame.ensures ∙ c.in-3.keys3)))
+returns-in-3 c = c.read_carried_3.ensures ∙ ap (carried_by c.args.bytes.now) (sym (at_3 _ _ _ _ _ _ _ _ (sym c.u16_at-frame.ensures ∙ c.in-3.is)))
 
 pub returns-in-4 : goal.returns-in-4
 unfolding carried_of carried_by
-returns-in-4 c = ap (carried_by c.args.bytes.now) (sym (at_4 _ _ _ _ _ _ _ _ (sym c.u16_at-frame.ensures ∙ c.in-4.keys4)))
+returns-in-4 c = ap (carried_by c.args.bytes.now) (sym (at_4 _ _ _ _ _ _ _ _ (sym c.u16_at-frame.ensures ∙ c.in-4.is)))
 
 pub returns-in-5 : goal.returns-in-5
 unfolding carried_of
-returns-in-5 c = c.read_carried_5.ensures ∙ ap (carried_by c.args.bytes.now) (sym (at_5 _ _ _ _ _ _ _ _ (sym c.u16_at-frame.ensures ∙ c.in-5.keys5)))
+returns-in-5 c = c.read_carried_5.ensures ∙ ap (carried_by c.args.bytes.now) (sym (at_5 _ _ _ _ _ _ _ _ (sym c.u16_at-frame.ensures ∙ c.in-5.is)))
 
 pub returns-in-6 : goal.returns-in-6
 unfolding carried_of carried_by
-returns-in-6 c = ap (carried_by c.args.bytes.now) (sym (at_6 _ _ _ _ _ _ _ _ (sym c.u16_at-frame.ensures ∙ c.in-6.keys6)))
+returns-in-6 c = ap (carried_by c.args.bytes.now) (sym (at_6 _ _ _ _ _ _ _ _ (sym c.u16_at-frame.ensures ∙ c.in-6.is)))
 
 pub returns-in_default : goal.returns-in_default
 unfolding carried_of
 returns-in_default c =
-    let r = c.in_default.rest in
+    let r = c.in_default.in_default-own.rest in
     let e = c.u16_at-frame.ensures in
     c.read_carried_7.ensures
     ∙ ap (carried_by c.args.bytes.now)

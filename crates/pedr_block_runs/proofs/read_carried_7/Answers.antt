@@ -5,7 +5,6 @@ use mathlib.Core.Path.{ap, ◌∙◌}
 use Rattle.octets.specs.Bytes.{put}
 use Rattle.octets.specs.Table.{octets_at}
 use Rattle.pedr_block_runs.specs.Carried.{carried_by}
-use borrow.Author.Rules.{rules}
 use Rattle.pedr_block_runs.proofs.read_carried_7.Goals as goal
 
 pub returns : goal.returns

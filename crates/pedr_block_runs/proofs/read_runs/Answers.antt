@@ -2,28 +2,27 @@
 use mathlib.Core.Path.{sym, ◌∙◌}
 use Rattle.pedr_layout.proofs.Frames.{at_3, at_4, at_5, at_6, at_others}
 use Rattle.pedr_block_runs.specs.Runs.{runs_of}
-use borrow.Author.Rules.{rules}
 use Rattle.pedr_block_runs.proofs.read_runs.Goals as goal
 
 pub returns-in-3 : goal.returns-in-3
 unfolding runs_of
-returns-in-3 c = c.read_runs_3.ensures ∙ sym (at_3 _ _ _ _ _ _ _ _ (sym c.u16_at-frame.ensures ∙ c.in-3.keys1))
+returns-in-3 c = c.read_runs_3.ensures ∙ sym (at_3 _ _ _ _ _ _ _ _ (sym c.u16_at-frame.ensures ∙ c.in-3.is))
 
 pub returns-in-4 : goal.returns-in-4
 unfolding runs_of
-returns-in-4 c = c.read_runs_4.ensures ∙ sym (at_4 _ _ _ _ _ _ _ _ (sym c.u16_at-frame.ensures ∙ c.in-4.keys2))
+returns-in-4 c = c.read_runs_4.ensures ∙ sym (at_4 _ _ _ _ _ _ _ _ (sym c.u16_at-frame.ensures ∙ c.in-4.is))
 
 pub returns-in-5 : goal.returns-in-5
 unfolding runs_of
-returns-in-5 c = c.read_runs_5.ensures ∙ sym (at_5 _ _ _ _ _ _ _ _ (sym c.u16_at-frame.ensures ∙ c.in-5.keys3))
+returns-in-5 c = c.read_runs_5.ensures ∙ sym (at_5 _ _ _ _ _ _ _ _ (sym c.u16_at-frame.ensures ∙ c.in-5.is))
 
 pub returns-in-6 : goal.returns-in-6
 unfolding runs_of
-returns-in-6 c = c.read_runs_6.ensures ∙ sym (at_6 _ _ _ _ _ _ _ _ (sym c.u16_at-frame.ensures ∙ c.in-6.keys4))
+returns-in-6 c = c.read_runs_6.ensures ∙ sym (at_6 _ _ _ _ _ _ _ _ (sym c.u16_at-frame.ensures ∙ c.in-6.is))
 
 pub returns-in_default : goal.returns-in_default
 unfolding runs_of
 returns-in_default c =
-    let r = c.in_default.rest in
+    let r = c.in_default.in_default-own.rest in
     let e = c.u16_at-frame.ensures in
     c.no_runs.ensures ∙ sym (at_others _ _ _ _ _ _ (λ z. r.0.0.0.1 (e ∙ z)) (λ z. r.0.0.1 (e ∙ z)) (λ z. r.0.1 (e ∙ z)) (λ z. r.1 (e ∙ z)))

@@ -2,7 +2,6 @@
 use mathlib.Core.List.{◌++◌}
 use lib.ListN.{replicate}
 use Rattle.pedr_block_runs.specs.Runs.{runs_in5}
-use borrow.Author.Rules.{rules}
 use Rattle.pedr_block_runs.proofs.read_runs_5.Goals as goal
 
 pub returns : goal.returns

@@ -3,7 +3,6 @@ use mathlib.Core.Path.{sym, ◌∙◌}
 use mathlib.Core.List.{append-nil}
 use lib.ListN.{replicate}
 use Rattle.pedr_block_runs.specs.Runs.{runs_in6}
-use borrow.Author.Rules.{rules}
 use Rattle.pedr_block_runs.proofs.read_runs_6.Goals as goal
 
 pub returns : goal.returns
