@@ -1,9 +1,6 @@
 -- Two rungs of the ladder, then the values' own.
 use mathlib.Core.Path.{◌≡◌, sym, ap, ◌∙◌}
-use mathlib.Core.List.{List}
-use Prim.Native.Nat.{ℕ}
 use mir.Syntax.{w32}
-use borrow.Author.Rules.{rules}
 use Rattle.numbers.proofs.Ranges.{held}
 use Rattle.octets.proofs.Ladder.{rungs}
 use Rattle.layout.specs.Column.{value}
@@ -12,19 +9,6 @@ use Rattle.pedr_flags.specs.Quality.{good_count}
 use Rattle.pedr_check.specs.Refusal.{values_refusal, record_refusal}
 use Rattle.pedr_check.proofs.record_refusal.Goals as goal
 
--- the record's bytes where its counter has been read, and what its test shows of them
-abbrev record_at : goal.After-u8_at → List ℕ
-record_at c = c.before.before.before.before.before.args.bytes.now
-
-good_is : (c : goal.After-u8_at) → c.good_count-good.result ≡ good_count (value (record_at c) quality_number)
-good_is c = c.good_count-good.ensures ∙ ap good_count c.u24_at.ensures
-
-counted : (c : goal.Else-good-u8_at) → good_count (value (record_at c.before) quality_number) ≡ value (record_at c.before) quality_counter
-counted c = sym (good_is c.before) ∙ c.if-good-u8_at.false ∙ c.u8_at.ensures
-
-miscounted : (c : goal.Then-good-u8_at) → good_count (value (record_at c.before) quality_number) ≡ value (record_at c.before) quality_counter → ⊥
-miscounted c e = c.if-good-u8_at.true (good_is c.before ∙ e ∙ sym c.u8_at.ensures)
-
 pub returns-then-bytes-ne-RECORD_SIZE : goal.returns-then-bytes-ne-RECORD_SIZE
 unfolding record_refusal
 returns-then-bytes-ne-RECORD_SIZE c = search rungs depth 10
@@ -32,15 +16,21 @@ returns-then-bytes-ne-RECORD_SIZE c = search rungs depth 10
 pub returns-then-good-u8_at : goal.returns-then-good-u8_at
 unfolding record_refusal
 returns-then-good-u8_at c =
-    let n = miscounted c in
+    let s = c.args.bytes.now in
+    let good : c.good_count-good.result ≡ good_count (value s quality_number) =
+    c.good_count-good.ensures ∙ ap good_count c.u24_at.ensures in
+    let n : good_count (value s quality_number) ≡ value s quality_counter → ⊥ =
+    λ e. c.if-good-u8_at.true (good ∙ e ∙ sym c.u8_at.ensures) in
     search rungs depth 10
 
 pub returns : goal.returns
 unfolding record_refusal
 returns c =
-    let e = c in
-    let s = record_at e.before in
-    let q = counted e in
+    let s = c.args.bytes.now in
+    let good : c.good_count-good.result ≡ good_count (value s quality_number) =
+    c.good_count-good.ensures ∙ ap good_count c.u24_at.ensures in
+    let q : good_count (value s quality_number) ≡ value s quality_counter =
+    sym good ∙ c.if-good-u8_at.false ∙ c.u8_at.ensures in
     let micros = c.i32_at-micros in
     let lat = c.i32_at-latitude in
     let m = held w32 micros.type_inv micros.ensures in

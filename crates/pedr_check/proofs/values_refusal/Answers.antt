@@ -7,8 +7,7 @@ use lib.IntN.{ℤ, nat_abs}
 use mir.Syntax.{w32}
 use mir.Val.{SFits, to_z, of_z}
 use mir.ValLaws.{to_z-of_z}
-use borrow.Author.Rules.{rules}
-use borrow.Author.Tests.{leb-true, leb-false, not-true, not-false}
+use borrow.Author.Tests.{leb-true, leb-false}
 use Rattle.octets.proofs.Ladder.{rungs}
 use Rattle.pedr_check.specs.Refusal.{values_refusal}
 use Rattle.pedr_check.proofs.values_refusal.Goals as goal
@@ -24,43 +23,36 @@ module _ (r : Bool) (x : ℤ) (n : ℕ) (fits : SFits w32 x) (tested : r ≡ leb
   beyond : r ≡ false → n < nat_abs x
   beyond e = leb-false (nat_abs x) n (test ∙ e)
 
-micros_inside : (c : goal.Else-not-is_within) → nat_abs c.args.micros ≤ 999999
-micros_inside c = inside _ _ 999999 c.ranges.micros c.is_within.ensures (not-false _ c.if-not-is_within.false)
-
-latitude_inside : (c : goal.Else-not-is_within-2) → nat_abs c.args.latitude ≤ 90000000
-latitude_inside c =
-    inside _ _ 90000000 c.ranges.latitude c.is_within-2.ensures (not-false _ c.if-not-is_within-2.false)
-
 pub returns-then-not-is_within : goal.returns-then-not-is_within
 unfolding values_refusal
 returns-then-not-is_within c =
-    let n = beyond _ _ 999999 c.ranges.micros c.is_within.ensures (not-true _ c.if-not-is_within.true) in
+    let n = beyond _ _ 999999 c.ranges.micros c.is_within.ensures c.if-not-is_within.true in
     search rungs depth 10
 
 pub returns-then-not-is_within-2 : goal.returns-then-not-is_within-2
 unfolding values_refusal
 returns-then-not-is_within-2 c =
-    let m = micros_inside (goal.at.returns-then-not-is_within-2 c).Else-not-is_within in
-    let n = beyond _ _ 90000000 c.ranges.latitude c.is_within-2.ensures (not-true _ c.if-not-is_within-2.true) in
+    let m = inside _ _ 999999 c.ranges.micros c.is_within.ensures c.if-not-is_within.false in
+    let n = beyond _ _ 90000000 c.ranges.latitude c.is_within-2.ensures c.if-not-is_within-2.true in
     search rungs depth 10
 
 pub returns-then-frame_index-lt1 : goal.returns-then-frame_index-lt1
 unfolding values_refusal
 returns-then-frame_index-lt1 c =
-    let m = micros_inside (goal.at.returns-then-frame_index-lt1 c).Else-not-is_within in
-    let l = latitude_inside c.before.before in
+    let m = inside _ _ 999999 c.ranges.micros c.is_within.ensures c.if-not-is_within.false in
+    let l = inside _ _ 90000000 c.ranges.latitude c.is_within-2.ensures c.if-not-is_within-2.false in
     search rungs depth 10
 
 pub returns-then-frame_index-gt7 : goal.returns-then-frame_index-gt7
 unfolding values_refusal
 returns-then-frame_index-gt7 c =
-    let m = micros_inside (goal.at.returns-then-frame_index-gt7 c).Else-not-is_within in
-    let l = latitude_inside c.before.before.before in
+    let m = inside _ _ 999999 c.ranges.micros c.is_within.ensures c.if-not-is_within.false in
+    let l = inside _ _ 90000000 c.ranges.latitude c.is_within-2.ensures c.if-not-is_within-2.false in
     search rungs depth 10
 
 pub returns : goal.returns
 unfolding values_refusal
 returns c =
-    let m = micros_inside (goal.at.returns c).Else-not-is_within in
-    let l = latitude_inside c.before.before.before in
+    let m = inside _ _ 999999 c.ranges.micros c.is_within.ensures c.if-not-is_within.false in
+    let l = inside _ _ 90000000 c.ranges.latitude c.is_within-2.ensures c.if-not-is_within-2.false in
     search rungs depth 10
