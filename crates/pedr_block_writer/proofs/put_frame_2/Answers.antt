@@ -2,7 +2,6 @@
 use mathlib.Core.Path.{ap, ◌∙◌}
 use Rattle.octets.specs.Bytes.{put}
 use Rattle.pedr_layout.specs.Block as columns
-use borrow.Author.Rules.{rules}
 use Rattle.pedr_block_writer.proofs.put_frame_2.Goals as goal
 
 pub returns : goal.returns

@@ -14,39 +14,34 @@ use Rattle.pedr_block_writer.proofs.Stores.{whole_stored, bytes_stored}
 use borrow.Author.Rules.{rules}
 use Rattle.pedr_block_writer.proofs.put_frame_3.Goals as goal
 
--- the arrays' lengths, by their types
-lengths : (s : goal.Start) → (length s.args.status_flags ≡ 2) × (length s.args.tracker ≡ 14)
-lengths s = (search rules, search rules)
-
--- the carried bytes are bytes
-octets : (c : goal.After-slice_known-14-1) → Octets c.before.before.before.before.before.before.before.before.before.before.before.before.before.before.before.before.before.before.before.before.before.before.before.before.before.before.before.before.before.before.before.before.before.before.before.before.before.before.before.before.before.before.before.before.before.before.before.before.before.before.before.before.before.before.before.before.before.args.carried.now
-octets c k = (c.shared_slice_known-1.given k).fits
-
--- a store leaves the output's length
-
 pub slice_bounds-write_u16s-end-2 : goal.slice_bounds-write_u16s-end-2
-slice_bounds-write_u16s-end-2 c = omega (arith, (lengths c.before.before.before.before.before.before.before.before.before.before.before.before.before.before.before.before.before.before.before.before.before.before.before.before.before.before.before.before.before.before.before.before.before.before.before.before.before.before.before.before.before.before.before.before.before.before.before.before.before.before.before.before).1)
-
-pub shape_of-out : goal.shape_of-out
-shape_of-out c = ap length (returns c) ∙ put_length _ _ _
+slice_bounds-write_u16s-end-2 c =
+    let n : length c.args.tracker ≡ 14 = search rules in
+    omega (arith, n)
 
 pub returns : goal.returns
 unfolding octets_of_all
 returns c =
-    let s = c in
-    puts_join (row_parts (columns.columns_in columns.frame3) (frame3_row s.args.fields s.args.status_flags s.args.tracker s.args.carried.now)) (columns.columns_in columns.frame3) columns.block_start columns.block_end refl
-    (frame3_fits s.args.fields s.args.status_flags s.args.tracker _ (lengths s).0 (lengths s).1)
+    let status_flags_length : length c.args.status_flags ≡ 2 = search rules in
+    let tracker_length : length c.args.tracker ≡ 14 = search rules in
+    let bytes : Octets c.args.carried.now = λ k. (c.type_inv.carried k).fits in
+    puts_join (row_parts (columns.columns_in columns.frame3) (frame3_row c.args.fields c.args.status_flags c.args.tracker c.args.carried.now)) (columns.columns_in columns.frame3) columns.block_start columns.block_end refl
+    (frame3_fits c.args.fields c.args.status_flags c.args.tracker _ status_flags_length tracker_length)
     (c.write_u16.ensures
     ▸ c.write_u16-2.ensures
     ▸ c.write_u8.ensures
     ▸ c.write_u8-2.ensures
     ▸ c.write_u16-3.ensures
-    ▸ whole_stored 2 s.args.status_flags _ _ _ (lengths s).0 c.write_u16s.ensures
+    ▸ whole_stored 2 c.args.status_flags _ _ _ status_flags_length c.write_u16s.ensures
     ▸ c.write_u16-4.ensures
     ▸ c.write_u8-3.ensures
     ▸ c.write_u8-4.ensures
     ▸ c.write_u8-5.ensures
     ▸ c.write_u8-6.ensures
-    ▸ bytes_stored s.args.carried.now _ _ _ _ _ (octets c) c.copy_part.ensures
+    ▸ bytes_stored c.args.carried.now _ _ _ _ _ bytes c.copy_part.ensures
     ▸ c.write_u16s-2.ensures
     ▸ stop)
+
+-- a store leaves the output's length
+pub shape_of-out : goal.shape_of-out
+shape_of-out c = ap length (returns c) ∙ put_length _ _ _

@@ -12,20 +12,15 @@ use Rattle.pedr_block_writer.proofs.Stores.{whole_stored}
 use borrow.Author.Rules.{rules}
 use Rattle.pedr_block_writer.proofs.put_frame_4.Goals as goal
 
--- the array's length, by its type
-lengths : (s : goal.After-slice_known-2-1) → length s.args.tracker ≡ 14
-lengths s = search rules
-
--- a store leaves the output's length
-
-pub shape_of-out : goal.shape_of-out
-shape_of-out c = ap length (returns c) ∙ put_length _ _ _
-
 pub returns : goal.returns
 unfolding octets_of_all
 returns c =
-    let s = c in
-    puts_join (row_parts (columns.columns_in columns.frame4) (frame4_row s.args.tracker)) (columns.columns_in columns.frame4) columns.block_start columns.block_end refl
-    (frame4_fits s.args.tracker (lengths s))
-    (whole_stored 14 s.args.tracker _ _ _ (lengths s) c.write_u16s.ensures
+    let tracker_length : length c.args.tracker ≡ 14 = search rules in
+    puts_join (row_parts (columns.columns_in columns.frame4) (frame4_row c.args.tracker)) (columns.columns_in columns.frame4) columns.block_start columns.block_end refl
+    (frame4_fits c.args.tracker tracker_length)
+    (whole_stored 14 c.args.tracker _ _ _ tracker_length c.write_u16s.ensures
     ▸ stop)
+
+-- a store leaves the output's length
+pub shape_of-out : goal.shape_of-out
+shape_of-out c = ap length (returns c) ∙ put_length _ _ _

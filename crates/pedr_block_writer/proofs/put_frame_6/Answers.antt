@@ -12,22 +12,18 @@ use Rattle.pedr_block_writer.proofs.Stores.{whole_stored}
 use borrow.Author.Rules.{rules}
 use Rattle.pedr_block_writer.proofs.put_frame_6.Goals as goal
 
--- the arrays' lengths, by their types
-lengths : (s : goal.After-slice_known-4-1) → (length s.args.dump ≡ 5) × (length s.args.echo ≡ 8)
-lengths s = (search rules, search rules)
-
--- a store leaves the output's length
-
-pub shape_of-out : goal.shape_of-out
-shape_of-out c = ap length (returns c) ∙ put_length _ _ _
-
 pub returns : goal.returns
 unfolding octets_of_all
 returns c =
-    let s = c in
-    puts_join (row_parts (columns.columns_in columns.frame6) (frame6_row s.args.fields s.args.dump s.args.echo)) (columns.columns_in columns.frame6) columns.block_start columns.block_end refl
-    (frame6_fits s.args.fields s.args.dump s.args.echo (lengths s).0 (lengths s).1)
-    (whole_stored 5 s.args.dump _ _ _ (lengths s).0 c.write_u16s.ensures
-    ▸ whole_stored 8 s.args.echo _ _ _ (lengths s).1 c.write_u16s-2.ensures
+    let dump_length : length c.args.dump ≡ 5 = search rules in
+    let echo_length : length c.args.echo ≡ 8 = search rules in
+    puts_join (row_parts (columns.columns_in columns.frame6) (frame6_row c.args.fields c.args.dump c.args.echo)) (columns.columns_in columns.frame6) columns.block_start columns.block_end refl
+    (frame6_fits c.args.fields c.args.dump c.args.echo dump_length echo_length)
+    (whole_stored 5 c.args.dump _ _ _ dump_length c.write_u16s.ensures
+    ▸ whole_stored 8 c.args.echo _ _ _ echo_length c.write_u16s-2.ensures
     ▸ c.write_u16.ensures
     ▸ stop)
+
+-- a store leaves the output's length
+pub shape_of-out : goal.shape_of-out
+shape_of-out c = ap length (returns c) ∙ put_length _ _ _

@@ -10,32 +10,26 @@ use Rattle.pedr_layout.specs.Block as columns
 use Rattle.pedr_block_writer.specs.Rows.{frame7_row}
 use Rattle.pedr_block_writer.proofs.Fits.{frame7_fits}
 use Rattle.pedr_block_writer.proofs.Stores.{bytes_stored}
-use borrow.Author.Rules.{rules}
 use Rattle.pedr_block_writer.proofs.put_frame_7.Goals as goal
-
--- the carried bytes are bytes
-octets : (c : goal.After-slice_known-11-1) → Octets c.args.carried.now
-octets c k = (c.shared_slice_known-1.given k).fits
-
--- a store leaves the output's length
-
-pub shape_of-out : goal.shape_of-out
-shape_of-out c = ap length (returns c) ∙ put_length _ _ _
 
 pub returns : goal.returns
 unfolding octets_of_all
 returns c =
-    let s = c in
-    puts_join (row_parts (columns.columns_in columns.frame7) (frame7_row s.args.fields s.args.carried.now)) (columns.columns_in columns.frame7) columns.block_start columns.block_end refl
-    (frame7_fits s.args.fields _)
+    let bytes : Octets c.args.carried.now = λ k. (c.type_inv.carried k).fits in
+    puts_join (row_parts (columns.columns_in columns.frame7) (frame7_row c.args.fields c.args.carried.now)) (columns.columns_in columns.frame7) columns.block_start columns.block_end refl
+    (frame7_fits c.args.fields _)
     (c.write_u32.ensures
     ▸ c.write_u32-2.ensures
-    ▸ bytes_stored s.args.carried.now _ _ _ _ _ (octets c) c.copy_part.ensures
+    ▸ bytes_stored c.args.carried.now _ _ _ _ _ bytes c.copy_part.ensures
     ▸ c.write_u32-3.ensures
     ▸ c.write_u8.ensures
     ▸ c.write_u8-2.ensures
     ▸ c.write_u8-3.ensures
     ▸ c.write_u8-4.ensures
     ▸ c.write_u16.ensures
-    ▸ bytes_stored s.args.carried.now _ _ _ _ _ (octets c) c.copy_part-2.ensures
+    ▸ bytes_stored c.args.carried.now _ _ _ _ _ bytes c.copy_part-2.ensures
     ▸ stop)
+
+-- a store leaves the output's length
+pub shape_of-out : goal.shape_of-out
+shape_of-out c = ap length (returns c) ∙ put_length _ _ _
