@@ -1,16 +1,11 @@
 -- One law of loops that test each element.
-use Prim.Native.Nat.{◌-◌}
 use mathlib.Core.Path.{◌≡◌}
 use native.Mathlib.Omega.{arith}
 use lib.ListN.{length}
-use Rattle.octets.proofs.Each.{Tested, tested_none, tested_more, tested_all}
+use Rattle.octets.proofs.Each.{tested_none, tested_more, tested_all}
 use Rattle.pedr_codes.specs.Codes.{is_proper_shot}
 use borrow.Author.Rules.{rules}
 use Rattle.pedr_codes.proofs.are_proper.Goals as goal
-
--- the array's length, by its type
-shots : (s : goal.Start) → length s.args.classes ≡ 20
-shots s = search rules
 
 pub loop-k-init : goal.loop-k-init
 loop-k-init c = tested_none is_proper_shot c.args.classes
@@ -30,13 +25,11 @@ loop-k-smaller c = omega arith
 pub loop-k-preserved : goal.loop-k-preserved
 loop-k-preserved c =
     let l = c.loop-k in
-    let s = c in
-    let n = shots s in
-    tested_more is_proper_shot s.args.classes l.all l.k _ _ (omega arith) c.is_proper-proper.ensures l.invariant
+    let n : length c.args.classes ≡ 20 = search rules in
+    tested_more is_proper_shot c.args.classes l.all l.k _ _ (omega arith) c.is_proper-proper.ensures l.invariant
 
 pub returns : goal.returns
 returns c =
     let l = c.loop-k in
-    let s = c in
-    let n = shots s in
-    tested_all is_proper_shot s.args.classes l.all l.k (omega arith) l.invariant
+    let n : length c.args.classes ≡ 20 = search rules in
+    tested_all is_proper_shot c.args.classes l.all l.k (omega arith) l.invariant

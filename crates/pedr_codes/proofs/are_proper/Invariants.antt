@@ -1,11 +1,7 @@
 -- One law of loops that test each element.
 use Prim.Native.Nat.{◌-◌}
-use mathlib.Core.Path.{◌≡◌}
-use native.Mathlib.Omega.{arith}
-use lib.ListN.{length}
-use Rattle.octets.proofs.Each.{Tested, tested_none, tested_more, tested_all}
+use Rattle.octets.proofs.Each.{Tested}
 use Rattle.pedr_codes.specs.Codes.{is_proper_shot}
-use borrow.Author.Rules.{rules}
 use Rattle.pedr_codes.proofs.are_proper.Given as goal
 
 abbrev pub invariant-loop-k : goal.invariant-loop-k

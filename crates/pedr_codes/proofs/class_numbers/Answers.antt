@@ -1,18 +1,13 @@
 -- One law of loops that fill a list, at a rule applied to each element.
-use Prim.Native.Nat.{◌-◌}
 use mathlib.Core.Path.{◌≡◌, refl, sym, ap, ◌∙◌}
 use native.Mathlib.Omega.{arith}
 use lib.ListN.{length, get_or}
 use Rattle.octets.specs.Table.{table}
-use Rattle.octets.proofs.Fill.{Filled, fill_more, fill_done, table_map}
+use Rattle.octets.proofs.Fill.{fill_more, fill_done, table_map}
 use Rattle.pedr_arrays.specs.Arrays.{shot_class}
 use Rattle.pedr_arrays.specs.Arrays.{shot_class_number}
 use borrow.Author.Rules.{rules}
 use Rattle.pedr_codes.proofs.class_numbers.Goals as goal
-
--- the array's length, by its type
-twenty : (s : goal.Start) → length s.args.shots ≡ 20
-twenty s = search rules
 
 pub loop-k-init : goal.loop-k-init
 loop-k-init c = (omega arith, refl)
@@ -43,8 +38,8 @@ loop-k-preserved c =
 
 pub returns : goal.returns
 returns c =
+    let n : length c.args.shots ≡ 20 = search rules in
     let l = c.loop-k in
-    let s = c in
-    let xs = s.args.shots in
+    let xs = c.args.shots in
     fill_done (λ j. shot_class_number (get_or xs j (shot_class 0))) _ l.numbers l.k c.loop-k-test.false l.invariant
-    ∙ ap (λ n. table n (λ j. shot_class_number (get_or xs j (shot_class 0)))) (sym (twenty s)) ∙ table_map shot_class_number xs (shot_class 0)
+    ∙ ap (λ n. table n (λ j. shot_class_number (get_or xs j (shot_class 0)))) (sym n) ∙ table_map shot_class_number xs (shot_class 0)

@@ -1,18 +1,13 @@
 -- One law of loops that fill a list, at a rule applied to each element.
-use Prim.Native.Nat.{◌-◌}
 use mathlib.Core.Path.{◌≡◌, refl, sym, ap, ◌∙◌}
 use native.Mathlib.Omega.{arith}
 use lib.ListN.{length, get_or}
 use Rattle.octets.specs.Table.{table}
-use Rattle.octets.proofs.Fill.{Filled, fill_more, fill_done, table_map}
+use Rattle.octets.proofs.Fill.{fill_more, fill_done, table_map}
 use Rattle.pedr_flags.specs.Encoder.{encoder_of}
 use Rattle.pedr_flags_writer.specs.Encoder.{encoder_byte}
 use borrow.Author.Rules.{rules}
 use Rattle.pedr_codes.proofs.encoder_bytes.Goals as goal
-
--- the array's length, by its type
-shots : (s : goal.Start) → length s.args.encoders ≡ 20
-shots s = search rules
 
 pub loop-k-init : goal.loop-k-init
 loop-k-init c = (omega arith, refl)
@@ -40,8 +35,8 @@ loop-k-preserved c =
 
 pub returns : goal.returns
 returns c =
+    let n : length c.args.encoders ≡ 20 = search rules in
     let l = c.loop-k in
-    let s = c in
-    let xs = s.args.encoders in
+    let xs = c.args.encoders in
     fill_done (λ j. encoder_byte (get_or xs j (encoder_of 0))) _ l.bytes l.k c.loop-k-test.false l.invariant
-    ∙ ap (λ n. table n (λ j. encoder_byte (get_or xs j (encoder_of 0)))) (sym (shots s)) ∙ table_map encoder_byte xs (encoder_of 0)
+    ∙ ap (λ n. table n (λ j. encoder_byte (get_or xs j (encoder_of 0)))) (sym n) ∙ table_map encoder_byte xs (encoder_of 0)

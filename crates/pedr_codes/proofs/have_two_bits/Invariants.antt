@@ -1,15 +1,8 @@
 -- One law of loops that test each element, at the bits of the parts so far.
-use Prim.Native.Nat.{ℕ, ◌+◌, ◌-◌}
-use mathlib.Core.Path.{◌≡◌, sym, ap, subst, ◌∙◌}
-use mathlib.Core.Bool.{Bool, ◌&&◌}
-use native.Mathlib.Omega.{arith}
-use lib.ListN.{length, get_or}
-use Rattle.octets.proofs.Each.{Tested, tested_none, tested_more, tested_all}
-use Rattle.pedr_flags.specs.Encoder.{encoder_of}
+use Prim.Native.Nat.{◌-◌}
+use Rattle.octets.proofs.Each.{Tested}
 use Rattle.pedr_codes.specs.Codes.{has_two_bits}
 use Rattle.pedr_codes.specs.Together.{bytes_have_two_bits}
-use Rattle.pedr_codes.proofs.Together.{together}
-use borrow.Author.Rules.{rules}
 use Rattle.pedr_codes.proofs.have_two_bits.Given as goal
 
 abbrev pub invariant-loop-k : goal.invariant-loop-k

@@ -1,8 +1,7 @@
 -- The number is tested as the definition tests it.
 use mathlib.Core.Path.{sym, ap}
-use borrow.Author.Rules.{rules}
 use Rattle.pedr_codes.specs.Codes.{is_proper}
 use Rattle.pedr_codes.proofs.is_proper.Goals as goal
 
 pub returns-in-Unassigned : goal.returns-in-Unassigned
-returns-in-Unassigned c = sym (ap is_proper c.class-1.given.1)
+returns-in-Unassigned c = sym (ap is_proper c.in-Unassigned.is)
