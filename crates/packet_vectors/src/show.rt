@@ -1,56 +1,58 @@
-// Text, numbers and digests on standard output.
+// Text, numbers and digests on standard output. A write that fails leaves its text out.
 
-pub(crate) fn text(bytes: &[u8]) {
-    io::write_all(libc::STDOUT_FILENO, bytes);
+use std::io::Stdout;
+
+pub(crate) fn text(stdout: Stdout, bytes: &[u8]) {
+    let _ = stdout.write_all(bytes);
 }
 
 // A space and a number, of each width.
-pub(crate) fn entry(n: u64) {
-    text(b" ");
-    io::print_decimal(libc::STDOUT_FILENO, n);
+pub(crate) fn entry(stdout: Stdout, n: u64) {
+    text(stdout, b" ");
+    let _ = stdout.print(n);
 }
 
-pub(crate) fn entry_8(n: u8) {
-    entry(n as u64);
+pub(crate) fn entry_8(stdout: Stdout, n: u8) {
+    entry(stdout, n as u64);
 }
 
-pub(crate) fn entry_16(n: u16) {
-    entry(n as u64);
+pub(crate) fn entry_16(stdout: Stdout, n: u16) {
+    entry(stdout, n as u64);
 }
 
-pub(crate) fn entry_32(n: u32) {
-    entry(n as u64);
+pub(crate) fn entry_32(stdout: Stdout, n: u32) {
+    entry(stdout, n as u64);
 }
 
-pub(crate) fn entry_size(n: usize) {
-    entry(n as u64);
+pub(crate) fn entry_size(stdout: Stdout, n: usize) {
+    entry(stdout, n as u64);
 }
 
 // How the line of a case starts: what is done, the row's number, and the sum word that the library is told.
-pub(crate) fn head(name: &[u8], i: usize, word: usize) {
-    text(name);
-    entry_size(i);
-    text(b" word");
-    entry_size(word);
+pub(crate) fn head(stdout: Stdout, name: &[u8], i: usize, word: usize) {
+    text(stdout, name);
+    entry_size(stdout, i);
+    text(stdout, b" word");
+    entry_size(stdout, word);
 }
 
-pub(crate) fn refused(n: u8) {
-    text(b": refused");
-    entry_8(n);
+pub(crate) fn refused(stdout: Stdout, n: u8) {
+    text(stdout, b": refused");
+    entry_8(stdout, n);
 }
 
 // Says so where an answer is not the one that is due.
-pub(crate) fn check(answer: u8, due: u64) {
+pub(crate) fn check(stdout: Stdout, answer: u8, due: u64) {
     if answer as u64 != due {
-        text(b" BUT DUE IS");
-        entry(due);
+        text(stdout, b" BUT DUE IS");
+        entry(stdout, due);
     }
 }
 
-pub(crate) fn list(bytes: &[u8]) {
+pub(crate) fn list(stdout: Stdout, bytes: &[u8]) {
     let mut k = 0;
     while k < bytes.len() {
-        entry(octets::u8_at(bytes, k) as u64);
+        entry(stdout, octets::u8_at(bytes, k) as u64);
         k = k + 1;
     }
 }

@@ -3,21 +3,23 @@ use crate::{build, reads, show, tables};
 use packet::{PacketAnswer, PacketArrays, PacketFields, PacketRead};
 use packet_layout::{CARRIED_AT, CARRIED_SIZE, PACKET_SIZE, PUBLISHED_SUM_WORD};
 use packet_writer::PacketWritten;
+use std::io::Stdout;
 
-fn refused(n: u8, row: u64) {
-    show::refused(n);
-    show::check(n, row / tables::DUE);
+fn refused(stdout: Stdout, n: u8, row: u64) {
+    show::refused(stdout, n);
+    show::check(stdout, n, row / tables::DUE);
 }
 
 // The digest of what was written, and what the reader says of it.
-fn written(out: &[u8], word: usize, row: u64) {
-    show::text(b": written, digest");
-    show::entry(show::digest(out));
-    show::text(b", read back");
-    reads::judge(out, word, row);
+fn written(stdout: Stdout, out: &[u8], word: usize, row: u64) {
+    show::text(stdout, b": written, digest");
+    show::entry(stdout, show::digest(out));
+    show::text(stdout, b", read back");
+    reads::judge(stdout, out, word, row);
 }
 
 fn judge(
+    stdout: Stdout,
     row: u64,
     word: usize,
     f: PacketFields,
@@ -27,8 +29,8 @@ fn judge(
 ) {
     let answer = packet_writer::write_packet(f, arrays, carried, word, out);
     match answer {
-        PacketWritten::Refused(n) => refused(n, row),
-        PacketWritten::Written => written(out, word, row),
+        PacketWritten::Refused(n) => refused(stdout, n, row),
+        PacketWritten::Written => written(stdout, out, word, row),
     }
 }
 
@@ -47,45 +49,46 @@ fn fields_of(row: u64, f: PacketFields) -> PacketFields {
     fields
 }
 
-fn write_fields(row: u64, word: usize, carried: &[u8], out: &mut [u8]) {
+fn write_fields(stdout: Stdout, row: u64, word: usize, carried: &[u8], out: &mut [u8]) {
     let read = source(row);
     let answer = read.answer;
     let arrays = read.arrays;
     if let PacketAnswer::Accepted(f) = answer {
-        judge(row, word, fields_of(row, f), arrays, carried, out);
+        judge(stdout, row, word, fields_of(row, f), arrays, carried, out);
     }
 }
 
 // The carried bytes are as they are filled, so that they hold something else than the sum at its word.
-fn write_carried(row: u64, word: usize, out: &mut [u8]) {
+fn write_carried(stdout: Stdout, row: u64, word: usize, out: &mut [u8]) {
     let mut filled = [0; 2160];
     build::packet_of(row - row % tables::FILL, 0, &mut filled);
     let end = CARRIED_AT + build::given(row, tables::CARRIED, CARRIED_SIZE as u64) as usize;
     if end <= 2160 {
-        write_fields(row, word, &filled[CARRIED_AT..end], out);
+        write_fields(stdout, row, word, &filled[CARRIED_AT..end], out);
     }
 }
 
-fn show_output(room: &[u8; 2160]) {
+fn show_output(stdout: Stdout, room: &[u8; 2160]) {
     if show::same(room, &[165; 2160]) {
-        show::text(b", output the same");
+        show::text(stdout, b", output the same");
     }
-    show::text(b"\n");
+    show::text(stdout, b"\n");
 }
 
 // Row i with its sum at a word, into an output whose bytes are all 165.
-pub(crate) fn write_at(i: usize, row: u64, word: usize) {
+pub(crate) fn write_at(stdout: Stdout, i: usize, row: u64, word: usize) {
     let mut room = [165; 2160];
     let length = build::given(row, tables::OUTPUT, PACKET_SIZE as u64) as usize;
-    show::head(b"write", i, word);
+    show::head(stdout, b"write", i, word);
     if length <= 2160 {
-        write_carried(row, word, &mut room[0..length]);
+        write_carried(stdout, row, word, &mut room[0..length]);
     }
-    show_output(&room);
+    show_output(stdout, &room);
 }
 
-pub(crate) fn write(i: usize, row: u64) {
+pub(crate) fn write(stdout: Stdout, i: usize, row: u64) {
     write_at(
+        stdout,
         i,
         row,
         build::given(row, tables::WORD, PUBLISHED_SUM_WORD as u64) as usize,

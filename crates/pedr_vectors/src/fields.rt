@@ -2,9 +2,11 @@
 use crate::show;
 use pedr_fields::{FrameTime, OrbitPosition, PacketLink, Pointing, Ranges, Receiver, RecordFields};
 use pedr_flags::{Descriptor, Quality};
+use std::io::Stdout;
 
-pub(crate) fn legend() {
+pub(crate) fn legend(stdout: Stdout) {
     show::text(
+        stdout,
         b"record: time whole micros in_micros, position orbit latitude longitude radial_distance ground_latitude \
         ground_longitude, quality good carried counter, descriptor packet_sum software_sum mode ots carried, \
         pointing right_ascension declination twist, ranges mid_point_range frame_radius delay width, \
@@ -23,78 +25,78 @@ pub(crate) fn bit(b: bool) -> u64 {
     if b { 1 } else { 0 }
 }
 
-fn show_time(t: FrameTime) {
-    show::text(b": time");
-    show::signed_32(t.whole);
-    show::signed_32(t.micros);
-    show::signed(pedr_fields::time_in_micros(t));
+fn show_time(stdout: Stdout, t: FrameTime) {
+    show::text(stdout, b": time");
+    show::signed_32(stdout, t.whole);
+    show::signed_32(stdout, t.micros);
+    show::signed(stdout, pedr_fields::time_in_micros(t));
 }
 
-fn show_position(p: OrbitPosition) {
-    show::text(b", position");
-    show::entry_32(p.orbit);
-    show::signed_32(p.latitude);
-    show::signed_32(p.longitude);
-    show::entry_32(p.radial_distance);
-    show::signed_32(p.ground_latitude);
-    show::signed_32(p.ground_longitude);
+fn show_position(stdout: Stdout, p: OrbitPosition) {
+    show::text(stdout, b", position");
+    show::entry_32(stdout, p.orbit);
+    show::signed_32(stdout, p.latitude);
+    show::signed_32(stdout, p.longitude);
+    show::entry_32(stdout, p.radial_distance);
+    show::signed_32(stdout, p.ground_latitude);
+    show::signed_32(stdout, p.ground_longitude);
 }
 
-fn show_quality(q: Quality) {
-    show::text(b", quality");
-    show::entry_32(q.good);
-    show::entry(q.carried as u64);
-    show::entry(q.counter as u64);
+fn show_quality(stdout: Stdout, q: Quality) {
+    show::text(stdout, b", quality");
+    show::entry_32(stdout, q.good);
+    show::entry(stdout, q.carried as u64);
+    show::entry(stdout, q.counter as u64);
 }
 
-fn show_descriptor(d: Descriptor) {
-    show::text(b", descriptor");
-    show::entry(bit(d.packet_sum));
-    show::entry(bit(d.software_sum));
-    show::entry(bit(d.mode));
-    show::entry(bit(d.ots));
-    show::entry_32(d.carried);
+fn show_descriptor(stdout: Stdout, d: Descriptor) {
+    show::text(stdout, b", descriptor");
+    show::entry(stdout, bit(d.packet_sum));
+    show::entry(stdout, bit(d.software_sum));
+    show::entry(stdout, bit(d.mode));
+    show::entry(stdout, bit(d.ots));
+    show::entry_32(stdout, d.carried);
 }
 
-fn show_pointing(p: Pointing) {
-    show::text(b", pointing");
-    show::signed_32(p.right_ascension);
-    show::signed_32(p.declination);
-    show::signed_32(p.twist);
+fn show_pointing(stdout: Stdout, p: Pointing) {
+    show::text(stdout, b", pointing");
+    show::signed_32(stdout, p.right_ascension);
+    show::signed_32(stdout, p.declination);
+    show::signed_32(stdout, p.twist);
 }
 
-fn show_ranges(r: Ranges) {
-    show::text(b", ranges");
-    show::entry_32(r.mid_point_range);
-    show::entry_32(r.frame_radius);
-    show::entry_32(r.delay);
-    show::entry_32(r.width);
+fn show_ranges(stdout: Stdout, r: Ranges) {
+    show::text(stdout, b", ranges");
+    show::entry_32(stdout, r.mid_point_range);
+    show::entry_32(stdout, r.frame_radius);
+    show::entry_32(stdout, r.delay);
+    show::entry_32(stdout, r.width);
 }
 
-fn show_receiver(r: Receiver) {
-    show::text(b", receiver");
-    show::entry(r.channel_mask as u64);
-    show::entry(r.minimum_hits as u64);
-    show::entry(r.hit_count as u64);
-    show::entry(r.frame_counter as u64);
-    show::entry(r.trigger as u64);
-    show::entry(r.frame_index as u64);
+fn show_receiver(stdout: Stdout, r: Receiver) {
+    show::text(stdout, b", receiver");
+    show::entry(stdout, r.channel_mask as u64);
+    show::entry(stdout, r.minimum_hits as u64);
+    show::entry(stdout, r.hit_count as u64);
+    show::entry(stdout, r.frame_counter as u64);
+    show::entry(stdout, r.trigger as u64);
+    show::entry(stdout, r.frame_index as u64);
 }
 
-fn show_link(l: PacketLink) {
-    show::text(b", packet");
-    show::signed_32(l.seconds);
-    show::signed_16(l.millis);
-    show::entry(l.fine_time as u64);
+fn show_link(stdout: Stdout, l: PacketLink) {
+    show::text(stdout, b", packet");
+    show::signed_32(stdout, l.seconds);
+    show::signed_16(stdout, l.millis);
+    show::entry(stdout, l.fine_time as u64);
 }
 
-pub(crate) fn show_fields(f: RecordFields) {
-    show_time(f.time);
-    show_position(f.position);
-    show_quality(f.quality);
-    show_descriptor(f.descriptor);
-    show_pointing(f.pointing);
-    show_ranges(f.ranges);
-    show_receiver(f.receiver);
-    show_link(f.link);
+pub(crate) fn show_fields(stdout: Stdout, f: RecordFields) {
+    show_time(stdout, f.time);
+    show_position(stdout, f.position);
+    show_quality(stdout, f.quality);
+    show_descriptor(stdout, f.descriptor);
+    show_pointing(stdout, f.pointing);
+    show_ranges(stdout, f.ranges);
+    show_receiver(stdout, f.receiver);
+    show_link(stdout, f.link);
 }

@@ -13,7 +13,10 @@ mod shots;
 mod show;
 
 // The first n rows in turn; each finds the record as the last one left it.
-fn run_all(n: usize) {
+
+use std::io::Stdout;
+
+fn run_all(stdout: Stdout, n: usize) {
     let mut room = [0; 800];
     let mut length = pedr_layout::RECORD_SIZE;
     let mut i = 0;
@@ -25,12 +28,13 @@ fn run_all(n: usize) {
         }
         record::change(row, &mut room);
         length = record::length_after(row, length);
-        reads::ask_first(i, row, length, &room);
+        reads::ask_first(stdout, i, row, length, &room);
         i = i + 1;
     }
 }
 
-fn main() {
-    fields::legend();
-    run_all(cases::COUNT);
+fn main(rt: HostRuntime) {
+    let stdout = rt.stdout();
+    fields::legend(stdout);
+    run_all(stdout, cases::COUNT);
 }

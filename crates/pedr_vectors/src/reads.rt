@@ -6,49 +6,55 @@ use pedr_block::Block;
 use pedr_fields::RecordFields;
 use pedr_layout::UNINTERPRETED;
 use pedr_shot::{ShotAnswer, ShotFields};
+use std::io::Stdout;
 
 // How a line starts: what is read, the row's number, and how many bytes the library is given.
-fn head(name: &[u8], i: usize, length: usize) {
-    show::text(name);
-    show::entry(i as u64);
-    show::text(b" len");
-    show::entry(length as u64);
+fn head(stdout: Stdout, name: &[u8], i: usize, length: usize) {
+    show::text(stdout, name);
+    show::entry(stdout, i as u64);
+    show::text(stdout, b" len");
+    show::entry(stdout, length as u64);
 }
 
-fn refused(n: u8) {
-    show::text(b": refused");
-    show::entry(n as u64);
+fn refused(stdout: Stdout, n: u8) {
+    show::text(stdout, b": refused");
+    show::entry(stdout, n as u64);
 }
 
 // X, Y, Z, the source header, and the digests of the longer arrays, after those of shots and channels where they are asked for in full.
-fn show_arrays(arrays: RecordArrays, uninterpreted: [u8; UNINTERPRETED], full: bool) {
+fn show_arrays(
+    stdout: Stdout,
+    arrays: RecordArrays,
+    uninterpreted: [u8; UNINTERPRETED],
+    full: bool,
+) {
     let xyz = arrays.xyz;
     let header = arrays.source_header;
-    show::text(b", xyz");
-    show::signed_32(xyz[0]);
-    show::signed_32(xyz[1]);
-    show::signed_32(xyz[2]);
-    show::text(b", header");
-    show::entry_32(header[0]);
-    show::entry_32(header[1]);
-    let of_shots = shots::show_shots(arrays.shots, full);
-    let of_channels = shots::show_channels(arrays.channels, full);
+    show::text(stdout, b", xyz");
+    show::signed_32(stdout, xyz[0]);
+    show::signed_32(stdout, xyz[1]);
+    show::signed_32(stdout, xyz[2]);
+    show::text(stdout, b", header");
+    show::entry_32(stdout, header[0]);
+    show::entry_32(stdout, header[1]);
+    let of_shots = shots::show_shots(stdout, arrays.shots, full);
+    let of_channels = shots::show_channels(stdout, arrays.channels, full);
     if full {
-        show::text(b"\n  digests");
+        show::text(stdout, b"\n  digests");
     } else {
-        show::text(b", digests");
+        show::text(stdout, b", digests");
     }
-    show::entry(of_shots);
-    show::entry(of_channels);
-    show::entry(show::digest(&uninterpreted));
+    show::entry(stdout, of_shots);
+    show::entry(stdout, of_channels);
+    show::entry(stdout, show::digest(stdout, &uninterpreted));
 }
 
-fn accepted(f: RecordFields, block: Block) {
-    fields::show_fields(f);
-    frames::show_block(block);
+fn accepted(stdout: Stdout, f: RecordFields, block: Block) {
+    fields::show_fields(stdout, f);
+    frames::show_block(stdout, block);
 }
 
-fn read(row: u64, bytes: &[u8]) {
+fn read(stdout: Stdout, row: u64, bytes: &[u8]) {
     let full = rows::show(row) == cases::FULL;
     let record = pedr::read_record(bytes);
     let answer = record.answer;
@@ -57,52 +63,52 @@ fn read(row: u64, bytes: &[u8]) {
     let carried = record.carried;
     let uninterpreted = record.uninterpreted;
     match answer {
-        RecordAnswer::Refused(n) => refused(n),
-        RecordAnswer::Accepted(f, block) => accepted(f, block),
+        RecordAnswer::Refused(n) => refused(stdout, n),
+        RecordAnswer::Accepted(f, block) => accepted(stdout, f, block),
     }
-    frames::show_runs(runs, carried);
-    show_arrays(arrays, uninterpreted, full);
-    show::check(pedr::refusal_number(answer), row / cases::DUE);
+    frames::show_runs(stdout, runs, carried);
+    show_arrays(stdout, arrays, uninterpreted, full);
+    show::check(stdout, pedr::refusal_number(answer), row / cases::DUE);
 }
 
-fn show_shot(f: ShotFields) {
+fn show_shot(stdout: Stdout, f: ShotFields) {
     let all = shots::numbers(f);
-    show::text(b":");
-    show::digested(1, &all, true);
-    show::text(b", good");
-    show::entry(fields::bit(f.good));
+    show::text(stdout, b":");
+    show::digested(stdout, 1, &all, true);
+    show::text(stdout, b", good");
+    show::entry(stdout, fields::bit(f.good));
 }
 
-fn read_shot(row: u64, bytes: &[u8]) {
+fn read_shot(stdout: Stdout, row: u64, bytes: &[u8]) {
     let shot = row % cases::BYTE;
-    show::text(b" shot");
-    show::entry(shot);
+    show::text(stdout, b" shot");
+    show::entry(stdout, shot);
     let answer = pedr_shot::read_shot(bytes, shot as usize);
     match answer {
-        ShotAnswer::Refused(n) => refused(n),
-        ShotAnswer::Accepted(f) => show_shot(f),
+        ShotAnswer::Refused(n) => refused(stdout, n),
+        ShotAnswer::Accepted(f) => show_shot(stdout, f),
     }
-    show::check(pedr_shot::refusal_number(answer), row / cases::DUE);
+    show::check(stdout, pedr_shot::refusal_number(answer), row / cases::DUE);
 }
 
 // Has the bytes read as a row asks.
-fn ask(i: usize, row: u64, bytes: &[u8]) {
+fn ask(stdout: Stdout, i: usize, row: u64, bytes: &[u8]) {
     if rows::step(row) == cases::SHOT {
-        head(b"shot", i, bytes.len());
-        read_shot(row, bytes);
-        show::text(b"\n");
+        head(stdout, b"shot", i, bytes.len());
+        read_shot(stdout, row, bytes);
+        show::text(stdout, b"\n");
     }
     if rows::show(row) != 0 {
-        head(b"record", i, bytes.len());
-        read(row, bytes);
-        show::text(b"\n");
+        head(stdout, b"record", i, bytes.len());
+        read(stdout, row, bytes);
+        show::text(stdout, b"\n");
     }
 }
 
 // The same with as many bytes of the room as the library is to be given.
-pub(crate) fn ask_first(i: usize, row: u64, length: usize, room: &[u8; 800]) {
+pub(crate) fn ask_first(stdout: Stdout, i: usize, row: u64, length: usize, room: &[u8; 800]) {
     let bytes = &room[..];
     if length <= bytes.len() {
-        ask(i, row, &bytes[..length]);
+        ask(stdout, i, row, &bytes[..length]);
     }
 }

@@ -5,6 +5,7 @@ use crate::{fields, show};
 use pedr_arrays::{ChannelArrays, ShotArrays};
 use pedr_flags::Class;
 use pedr_shot::ShotFields;
+use std::io::Stdout;
 
 fn class_case(class: Class) -> u64 {
     match class {
@@ -63,37 +64,37 @@ fn shot_of(shots: ShotArrays, k: usize) -> ShotFields
 }
 
 // Starts the line of a shot or channel, where these are shown.
-fn start_line(name: &[u8], k: usize, full: bool) {
+fn start_line(stdout: Stdout, name: &[u8], k: usize, full: bool) {
     if full {
-        show::text(name);
-        show::entry(k as u64);
-        show::text(b":");
+        show::text(stdout, name);
+        show::entry(stdout, k as u64);
+        show::text(stdout, b":");
     }
 }
 
 // The digest of the shots, which are shown too in full.
-pub(crate) fn show_shots(shots: ShotArrays, full: bool) -> u64 {
+pub(crate) fn show_shots(stdout: Stdout, shots: ShotArrays, full: bool) -> u64 {
     let mut digest = 1;
     let mut k = 0;
     while k < 20 {
-        start_line(b"\n  shot", k + 1, full);
+        start_line(stdout, b"\n  shot", k + 1, full);
         let all = numbers(shot_of(shots, k));
-        digest = show::digested(digest, &all, full);
+        digest = show::digested(stdout, digest, &all, full);
         k = k + 1;
     }
     digest
 }
 
 // The digest of the channels, which are shown too in full.
-pub(crate) fn show_channels(channels: ChannelArrays, full: bool) -> u64 {
+pub(crate) fn show_channels(stdout: Stdout, channels: ChannelArrays, full: bool) -> u64 {
     let noise = channels.noise;
     let thresholds = channels.thresholds;
     let mut digest = 1;
     let mut k = 0;
     while k < 8 {
-        start_line(b"\n  channel", k + 1, full);
+        start_line(stdout, b"\n  channel", k + 1, full);
         let both = [noise[k] as u64, thresholds[k] as u64];
-        digest = show::digested(digest, &both, full);
+        digest = show::digested(stdout, digest, &both, full);
         k = k + 1;
     }
     digest

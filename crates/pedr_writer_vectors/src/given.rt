@@ -6,6 +6,7 @@ use pedr_block::Block;
 use pedr_block_runs::BlockRuns;
 use pedr_fields::RecordFields;
 use pedr_layout::{RECORD_SIZE, UNINTERPRETED};
+use std::io::Stdout;
 
 // The carried bytes that are lent are the first of 16, the uninterpreted ones the first of 256.
 #[derive(Clone, Copy)]
@@ -60,13 +61,13 @@ fn filled(fill: u64, frame: u64) -> [u8; RECORD_SIZE] {
 }
 
 // Says so where a fill is refused.
-fn accepted(answer: RecordAnswer, bytes: &[u8]) -> RecordFields {
+fn accepted(stdout: Stdout, answer: RecordAnswer, bytes: &[u8]) -> RecordFields {
     match answer {
         RecordAnswer::Accepted(fields, _) => fields,
         RecordAnswer::Refused(n) => {
-            show::text(b"fill");
-            show::refused(n);
-            show::text(b"\n");
+            show::text(stdout, b"fill");
+            show::refused(stdout, n);
+            show::text(stdout, b"\n");
             pedr_fields::read_fields(bytes)
         }
     }
@@ -79,7 +80,7 @@ fn accepted_block(answer: RecordAnswer, bytes: &[u8]) -> Block {
     }
 }
 
-pub(crate) fn filled_record(fill: u64, frame: u64) -> Given {
+pub(crate) fn filled_record(stdout: Stdout, fill: u64, frame: u64) -> Given {
     let bytes = filled(fill, frame);
     let record = pedr::read_record(&bytes);
     let answer = record.answer;
@@ -93,7 +94,7 @@ pub(crate) fn filled_record(fill: u64, frame: u64) -> Given {
     let mut uninterpreted = [0; 256];
     octets::write_into(&read, 0, &mut uninterpreted);
     Given {
-        fields: accepted(answer, &bytes),
+        fields: accepted(stdout, answer, &bytes),
         block,
         arrays,
         runs,

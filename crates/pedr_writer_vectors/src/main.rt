@@ -10,31 +10,36 @@ mod show;
 mod writes;
 
 // The first n rows in turn; each finds the fields as the last one left them.
-fn run_all(n: usize) {
-    let mut g = given::filled_record(cases::ZEROS, 1);
+
+use std::io::Stdout;
+
+fn run_all(stdout: Stdout, n: usize) {
+    let mut g = given::filled_record(stdout, cases::ZEROS, 1);
     let mut i = 0;
     while i < n {
         let row = cases::row(i);
         let fill = rows::fill(row);
         if fill != 0 {
-            g = given::filled_record(fill, rows::frame(row));
+            g = given::filled_record(stdout, fill, rows::frame(row));
         }
         g = changes::changed(g, row);
         if rows::show(row) != 0 {
-            writes::write(i, row, g);
+            writes::write(stdout, i, row, g);
         }
         i = i + 1;
     }
 }
 
-fn legend() {
+fn legend(stdout: Stdout) {
     show::text(
+        stdout,
         b"write: the answer; of a record that is written the counter as it is read, digests of the block's runs and carried bytes, \
         and what was read is written again; digests of both outputs, each with the bytes after it\n",
     );
 }
 
-fn main() {
-    legend();
-    run_all(cases::COUNT);
+fn main(rt: HostRuntime) {
+    let stdout = rt.stdout();
+    legend(stdout);
+    run_all(stdout, cases::COUNT);
 }

@@ -1,38 +1,40 @@
-// Text, numbers and digests on standard output.
+// Text, numbers and digests on standard output. A write that fails leaves its text out.
 
-pub(crate) fn text(bytes: &[u8]) {
-    io::write_all(libc::STDOUT_FILENO, bytes);
+use std::io::Stdout;
+
+pub(crate) fn text(stdout: Stdout, bytes: &[u8]) {
+    let _ = stdout.write_all(bytes);
 }
 
 // A space and a number.
-pub(crate) fn entry(n: u64) {
-    text(b" ");
-    io::print_decimal(libc::STDOUT_FILENO, n);
+pub(crate) fn entry(stdout: Stdout, n: u64) {
+    text(stdout, b" ");
+    let _ = stdout.print(n);
 }
 
-pub(crate) fn refused(n: u8) {
-    text(b" refused");
-    entry(n as u64);
+pub(crate) fn refused(stdout: Stdout, n: u8) {
+    text(stdout, b" refused");
+    entry(stdout, n as u64);
 }
 
 // Says so where an answer is not the one that is due.
-pub(crate) fn check(answer: u8, due: u64) {
+pub(crate) fn check(stdout: Stdout, answer: u8, due: u64) {
     if answer as u64 != due {
-        text(b" BUT DUE IS");
-        entry(due);
+        text(stdout, b" BUT DUE IS");
+        entry(stdout, due);
     }
 }
 
 // A line for each 20 bytes, with the number of its first record byte.
-pub(crate) fn lines(bytes: &[u8]) {
+pub(crate) fn lines(stdout: Stdout, bytes: &[u8]) {
     let mut k = 0;
     while k < bytes.len() {
         if k % 20 == 0 {
-            text(b"\n  byte");
-            entry((k + 1) as u64);
-            text(b":");
+            text(stdout, b"\n  byte");
+            entry(stdout, (k + 1) as u64);
+            text(stdout, b":");
         }
-        entry(octets::u8_at(bytes, k) as u64);
+        entry(stdout, octets::u8_at(bytes, k) as u64);
         k = k + 1;
     }
 }

@@ -8,10 +8,11 @@ use pedr_block_runs::BlockRuns;
 use pedr_fields::RecordFields;
 use pedr_layout::{CARRIED_MOST, RECORD_SIZE, UNINTERPRETED};
 use pedr_writer::RecordWritten;
+use std::io::Stdout;
 
-fn show_room(name: &[u8], room: &[u8; 800]) {
-    show::text(name);
-    show::entry(show::digest(room));
+fn show_room(stdout: Stdout, name: &[u8], room: &[u8; 800]) {
+    show::text(stdout, name);
+    show::entry(stdout, show::digest(room));
 }
 
 fn runs_digest(runs: BlockRuns) -> u64 {
@@ -26,17 +27,18 @@ fn runs_digest(runs: BlockRuns) -> u64 {
 }
 
 // The counter of a record that was read, and digests of the block's runs and carried bytes.
-fn show_read(counter: u8, runs: BlockRuns, carried: &[u8; CARRIED_MOST]) {
-    show::text(b" counter");
-    show::entry(counter as u64);
-    show::text(b" runs");
-    show::entry(runs_digest(runs));
-    show::text(b" carried");
-    show::entry(show::digest(carried));
+fn show_read(stdout: Stdout, counter: u8, runs: BlockRuns, carried: &[u8; CARRIED_MOST]) {
+    show::text(stdout, b" counter");
+    show::entry(stdout, counter as u64);
+    show::text(stdout, b" runs");
+    show::entry(stdout, runs_digest(runs));
+    show::text(stdout, b" carried");
+    show::entry(stdout, show::digest(carried));
 }
 
 // What the reader made of an output, written into a room of its own.
 fn write_again(
+    stdout: Stdout,
     f: RecordFields,
     block: Block,
     arrays: RecordArrays,
@@ -58,41 +60,41 @@ fn write_again(
             &mut room[0..RECORD_SIZE],
         );
         if let RecordWritten::Refused(n) = answer {
-            show::refused(n);
+            show::refused(stdout, n);
         }
     }
-    show_room(b", again", &room);
+    show_room(stdout, b", again", &room);
 }
 
-fn read_back(out: &[u8]) {
+fn read_back(stdout: Stdout, out: &[u8]) {
     let record = pedr::read_record(out);
     let answer = record.answer;
     let arrays = record.arrays;
     let runs = record.runs;
     let carried = record.carried;
     let uninterpreted = record.uninterpreted;
-    show::text(b" written, read back");
+    show::text(stdout, b" written, read back");
     match answer {
-        RecordAnswer::Refused(n) => show::refused(n),
+        RecordAnswer::Refused(n) => show::refused(stdout, n),
         RecordAnswer::Accepted(f, block) => {
             let quality = f.quality;
-            show_read(quality.counter, runs, &carried);
-            write_again(f, block, arrays, runs, &carried, uninterpreted);
+            show_read(stdout, quality.counter, runs, &carried);
+            write_again(stdout, f, block, arrays, runs, &carried, uninterpreted);
         }
     }
 }
 
-fn refused(n: u8, row: u64) {
-    show::refused(n);
-    show::check(n, row / cases::DUE);
+fn refused(stdout: Stdout, n: u8, row: u64) {
+    show::refused(stdout, n);
+    show::check(stdout, n, row / cases::DUE);
 }
 
-fn written(out: &[u8], row: u64) {
-    read_back(out);
-    show::check(0, row / cases::DUE);
+fn written(stdout: Stdout, out: &[u8], row: u64) {
+    read_back(stdout, out);
+    show::check(stdout, 0, row / cases::DUE);
 }
 
-fn judge(row: u64, g: Given, carried: &[u8], uninterpreted: &[u8], out: &mut [u8]) {
+fn judge(stdout: Stdout, row: u64, g: Given, carried: &[u8], uninterpreted: &[u8], out: &mut [u8]) {
     let block = g.block;
     let answer = pedr_writer::write_record(
         g.fields,
@@ -104,42 +106,49 @@ fn judge(row: u64, g: Given, carried: &[u8], uninterpreted: &[u8], out: &mut [u8
         out,
     );
     match answer {
-        RecordWritten::Refused(n) => refused(n, row),
-        RecordWritten::Written => written(out, row),
+        RecordWritten::Refused(n) => refused(stdout, n, row),
+        RecordWritten::Written => written(stdout, out, row),
     }
 }
 
 // The same with as many carried and uninterpreted bytes as are lent.
-fn lend(row: u64, g: Given, carried: &[u8; 16], uninterpreted: &[u8; 256], out: &mut [u8]) {
+fn lend(
+    stdout: Stdout,
+    row: u64,
+    g: Given,
+    carried: &[u8; 16],
+    uninterpreted: &[u8; 256],
+    out: &mut [u8],
+) {
     let spare = &carried[..];
     let bytes = &uninterpreted[..];
     let spare_size = g.carried_size;
     let size = g.uninterpreted_size;
     if spare_size <= spare.len() {
         if size <= bytes.len() {
-            judge(row, g, &spare[0..spare_size], &bytes[0..size], out);
+            judge(stdout, row, g, &spare[0..spare_size], &bytes[0..size], out);
         }
     }
 }
 
-fn end_line(row: u64, room: &[u8; 800]) {
-    show_room(b", room", room);
+fn end_line(stdout: Stdout, row: u64, room: &[u8; 800]) {
+    show_room(stdout, b", room", room);
     if rows::show(row) == cases::FULL {
-        show::lines(room);
+        show::lines(stdout, room);
     }
-    show::text(b"\n");
+    show::text(stdout, b"\n");
 }
 
-pub(crate) fn write(i: usize, row: u64, g: Given) {
+pub(crate) fn write(stdout: Stdout, i: usize, row: u64, g: Given) {
     let mut room = [165; 800];
     let carried = g.carried;
     let uninterpreted = g.uninterpreted;
     let size = g.output_size;
-    show::text(b"write");
-    show::entry(i as u64);
-    show::text(b":");
+    show::text(stdout, b"write");
+    show::entry(stdout, i as u64);
+    show::text(stdout, b":");
     if size <= 800 {
-        lend(row, g, &carried, &uninterpreted, &mut room[0..size]);
+        lend(stdout, row, g, &carried, &uninterpreted, &mut room[0..size]);
     }
-    end_line(row, &room);
+    end_line(stdout, row, &room);
 }

@@ -1,6 +1,7 @@
 // The packets of the rows. Their sums are worked out here, apart from the library.
 use crate::registers::Registers;
 use crate::{cases, registers, show};
+use std::io::Stdout;
 
 // The free bytes, by a number that goes with the packet.
 fn filled(s: usize) -> [u8; 1081] {
@@ -99,9 +100,9 @@ pub(crate) fn packet_of(row: u64, r: Registers) -> [u8; 1081] {
 }
 
 // What a line says of the packet; its damage is the digit at WRONG, and ten times the one at AFTER.
-pub(crate) fn show(row: u64, r: Registers) {
-    show::named(b" packet", registers::count(row, r));
-    show::entry(registers::time(row, r));
-    show::entry(length(row) as u64);
-    show::entry(row / cases::WRONG % 100);
+pub(crate) fn show(stdout: Stdout, row: u64, r: Registers) {
+    show::named(stdout, b" packet", registers::count(row, r));
+    show::entry(stdout, registers::time(row, r));
+    show::entry(stdout, length(row) as u64);
+    show::entry(stdout, row / cases::WRONG % 100);
 }

@@ -16,41 +16,51 @@ mod rows;
 mod show;
 
 // The rows of a table, the first of which starts a history.
-fn run_all(table: &[u64], store: &mut [u8], out: &mut [u8]) {
+
+use std::io::Stdout;
+
+fn run_all(stdout: Stdout, table: &[u64], store: &mut [u8], out: &mut [u8]) {
     let mut r = registers::fresh();
     let mut i = 0;
     while i < table.len() {
-        r = rows::run(table[i], r, store, out);
+        r = rows::run(stdout, table[i], r, store, out);
         i = i + 1;
     }
 }
 
-fn run_first(store: &mut [u8], out: &mut [u8]) {
-    run_all(&arrivals::ROWS, store, out);
-    run_all(&clocks::ROWS, store, out);
+fn run_first(stdout: Stdout, store: &mut [u8], out: &mut [u8]) {
+    run_all(stdout, &arrivals::ROWS, store, out);
+    run_all(stdout, &clocks::ROWS, store, out);
 }
 
-fn run_ends(store: &mut [u8], out: &mut [u8]) {
-    run_all(&ends::ROWS, store, out);
+fn run_ends(stdout: Stdout, store: &mut [u8], out: &mut [u8]) {
+    run_all(stdout, &ends::ROWS, store, out);
 }
 
-fn run_last(store: &mut [u8], out: &mut [u8]) {
-    run_all(&refusals::ROWS, store, out);
-    run_all(&mixed::ROWS, store, out);
+fn run_last(stdout: Stdout, store: &mut [u8], out: &mut [u8]) {
+    run_all(stdout, &refusals::ROWS, store, out);
+    run_all(stdout, &mixed::ROWS, store, out);
 }
 
-fn run_tables(store: &mut [u8], out: &mut [u8]) {
-    run_first(store, out);
-    run_ends(store, out);
-    run_last(store, out);
+fn run_tables(stdout: Stdout, store: &mut [u8], out: &mut [u8]) {
+    run_first(stdout, store, out);
+    run_ends(stdout, store, out);
+    run_last(stdout, store, out);
 }
 
 // Store and output have a byte more than the calls take, so that a length over the right one can be given too.
-fn main() {
+fn main(rt: HostRuntime) {
+    let stdout = rt.stdout();
     let mut store = [0; 34561];
     let mut out = [0; 34561];
-    show::text(b"threshold and sum word; packet: count, coarse time, bytes, damage\n");
-    show::text(b"session: anchor count, anchor time, sum word, threshold, next, marks\n");
-    show::text(b"bytes: digests of the store and the output\n");
-    run_tables(&mut store, &mut out);
+    show::text(
+        stdout,
+        b"threshold and sum word; packet: count, coarse time, bytes, damage\n",
+    );
+    show::text(
+        stdout,
+        b"session: anchor count, anchor time, sum word, threshold, next, marks\n",
+    );
+    show::text(stdout, b"bytes: digests of the store and the output\n");
+    run_tables(stdout, &mut store, &mut out);
 }

@@ -2,6 +2,7 @@
 use crate::cases::Call;
 use crate::registers::Registers;
 use crate::{calls, cases, registers, show};
+use std::io::Stdout;
 
 // The store at the start of a history.
 fn fill(store: &mut [u8]) {
@@ -12,9 +13,9 @@ fn fill(store: &mut [u8]) {
     }
 }
 
-fn start(row: u64, store: &mut [u8]) -> Registers {
-    show::named(b"history", cases::number(row) as u64);
-    show::text(b"\n");
+fn start(stdout: Stdout, row: u64, store: &mut [u8]) -> Registers {
+    show::named(stdout, b"history", cases::number(row) as u64);
+    show::text(stdout, b"\n");
     fill(store);
     registers::fresh()
 }
@@ -27,11 +28,17 @@ fn again(row: u64, k: u64) -> u64 {
     }
 }
 
-fn call_row(row: u64, mut r: Registers, store: &mut [u8], out: &mut [u8]) -> Registers {
+fn call_row(
+    stdout: Stdout,
+    row: u64,
+    mut r: Registers,
+    store: &mut [u8],
+    out: &mut [u8],
+) -> Registers {
     let n = cases::digit(row, cases::MORE) % 10 + 1;
     let mut k = 0;
     while k < n {
-        let after = calls::call(again(row, k), r, store, out);
+        let after = calls::call(stdout, again(row, k), r, store, out);
         r.session = after;
         k = k + 1;
     }
@@ -39,28 +46,34 @@ fn call_row(row: u64, mut r: Registers, store: &mut [u8], out: &mut [u8]) -> Reg
 }
 
 // The calls of EACH that take no packet.
-fn call_without_packet(row: u64, r: Registers, store: &mut [u8], out: &mut [u8]) {
+fn call_without_packet(stdout: Stdout, row: u64, r: Registers, store: &mut [u8], out: &mut [u8]) {
     let at_store = cases::digit(row, cases::STORE) % 10 * cases::STORE;
-    calls::call(cases::PASS + at_store, r, store, out);
-    calls::call(cases::DRAIN + at_store + 32, r, store, out);
-    calls::call(cases::SERVE + at_store, r, store, out);
+    calls::call(stdout, cases::PASS + at_store, r, store, out);
+    calls::call(stdout, cases::DRAIN + at_store + 32, r, store, out);
+    calls::call(stdout, cases::SERVE + at_store, r, store, out);
 }
 
 // The calls of EACH. None keeps its session, so that each is made from the same one.
-fn call_each(row: u64, r: Registers, store: &mut [u8], out: &mut [u8]) {
-    call_without_packet(row, r, store, out);
-    calls::call(cases::offer_of(row, 0), r, store, out);
+fn call_each(stdout: Stdout, row: u64, r: Registers, store: &mut [u8], out: &mut [u8]) {
+    call_without_packet(stdout, row, r, store, out);
+    calls::call(stdout, cases::offer_of(row, 0), r, store, out);
 }
 
-pub(crate) fn run(row: u64, r: Registers, store: &mut [u8], out: &mut [u8]) -> Registers {
+pub(crate) fn run(
+    stdout: Stdout,
+    row: u64,
+    r: Registers,
+    store: &mut [u8],
+    out: &mut [u8],
+) -> Registers {
     match cases::call_of(row) {
         Call::Each => {
-            call_each(row, r, store, out);
+            call_each(stdout, row, r, store, out);
             r
         }
         Call::Set => registers::set(row, r),
-        Call::History => start(row, store),
+        Call::History => start(stdout, row, store),
         Call::Make => registers::make(row, r),
-        _ => call_row(row, r, store, out),
+        _ => call_row(stdout, row, r, store, out),
     }
 }

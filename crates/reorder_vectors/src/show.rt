@@ -1,31 +1,32 @@
-// Text, numbers and digests on standard output.
+// Text, numbers and digests on standard output. A write that fails leaves its text out.
 use reorder_session::Session;
+use std::io::Stdout;
 
-pub(crate) fn text(bytes: &[u8]) {
-    io::write_all(libc::STDOUT_FILENO, bytes);
+pub(crate) fn text(stdout: Stdout, bytes: &[u8]) {
+    let _ = stdout.write_all(bytes);
 }
 
 // A space and a number.
-pub(crate) fn entry(n: u64) {
-    text(b" ");
-    io::print_decimal(libc::STDOUT_FILENO, n);
+pub(crate) fn entry(stdout: Stdout, n: u64) {
+    text(stdout, b" ");
+    let _ = stdout.print(n);
 }
 
 // A name and a number.
-pub(crate) fn named(name: &[u8], n: u64) {
-    text(name);
-    entry(n);
+pub(crate) fn named(stdout: Stdout, name: &[u8], n: u64) {
+    text(stdout, name);
+    entry(stdout, n);
 }
 
-pub(crate) fn session(s: Session) {
+pub(crate) fn session(stdout: Stdout, s: Session) {
     let anchor = s.anchor;
     let window = s.window;
-    named(b", session", anchor.count as u64);
-    entry(anchor.time as u64);
-    entry(s.sum_word as u64);
-    entry(s.threshold as u64);
-    entry(window.start as u64);
-    entry(window.marks as u64);
+    named(stdout, b", session", anchor.count as u64);
+    entry(stdout, anchor.time as u64);
+    entry(stdout, s.sum_word as u64);
+    entry(stdout, s.threshold as u64);
+    entry(stdout, window.start as u64);
+    entry(stdout, window.marks as u64);
 }
 
 // A digest taken on by one more number.
