@@ -1,28 +1,45 @@
 -- Laws of what a write's answer means, and of what it makes of a text.
-use Prim.Native.Nat.{ℕ, ◌+◌, ◌-◌, ◌<◌, ◌≤◌, min}
+use Prim.Native.Nat.{ℕ, ◌+◌, ◌-◌, ◌<◌, ◌≤◌}
 use mathlib.Core.Path.{◌≡◌, refl, sym, ◌∙◌}
 use mathlib.Core.Bool.{Bool, true, false, cond}
 use native.Mathlib.Omega.{arith}
 use lib.Dec.{ltb}
-use lib.IntN.{ℤ, pos, negsuc}
-use borrow.Author.Tests.{ltb-true, lt-ltb, le-ltb, eq-eqb, ne_eqb}
-use Rattle.io.specs.Counts.{clamp_len}
+use lib.ListN.{length, take, drop, length-drop}
+use lib.Seq.{take_all}
+use mathlib.Core.List.{List, [], ◌++◌}
+use borrow.Author.Tests.{ltb-true, lt-ltb, le-ltb}
+use Rattle.std.proofs.Common.{Option, None, Some, append_assoc, ap}
+use Rattle.std.proofs.lemmas.List.{append-nil}
+use Rattle.std.proofs.Math.Seq.{take-add}
+use Rattle.std.specs.Io.KnownBytes.{Keeps, Appends}
 use Rattle.program_output.specs.declared.Wrote.{Wrote}
 use Rattle.program_output.specs.declared.Wrote.TheVariants as Wr
-use Rattle.program_output.specs.declared.Written.{Written}
 use Rattle.program_output.specs.declared.Written.TheVariants as Wn
-use Rattle.program_output.specs.declared.WriteStep.{WriteStep}
 use Rattle.program_output.specs.declared.WriteStep.TheVariants as St
-use Rattle.program_output.specs.Written.{write_meaning, WroteWithin, bytes_taken, after_write}
+use Rattle.program_output.specs.Written.{WroteWithin, bytes_taken, after_write}
 
--- the two answers
-pub write_failed : (got : ℤ) (size n : ℕ) → n ≡ clamp_len got size → n ≡ 0 → Wr.Failed ≡ write_meaning got size
-write_failed (pos k) size n q z = rw (eq-eqb (min k size) 0 (sym q ∙ z))
-write_failed (negsuc k) size n q z = refl
+-- known bytes that grow by none, and by one part after another
+pub appends_none : (old : Option (List ℕ)) → Appends old old []
+appends_none None = tt
+appends_none (Some xs) = sym (append-nil xs)
 
-pub write_bytes : (got : ℤ) (size n : ℕ) → n ≡ clamp_len got size → (n ≡ 0 → ⊥) → Wr.Bytes n ≡ write_meaning got size
-write_bytes (pos k) size n q z = rw (← q, ne_eqb n 0 z)
-write_bytes (negsuc k) size n q z = absurd (z q)
+keeps_appends : (old new : Option (List ℕ)) → Keeps old new → Appends old new []
+keeps_appends None new h = tt
+keeps_appends (Some xs) None h = h
+keeps_appends (Some xs) (Some ys) h = h ∙ sym (append-nil xs)
+
+appends_both : (old mid new : Option (List ℕ)) (bs cs : List ℕ) → Appends old mid bs → Appends mid new cs → Appends old new (bs ++ cs)
+appends_both None mid new bs cs h k = tt
+appends_both (Some xs) None new bs cs h k = absurd h
+appends_both (Some xs) (Some ys) None bs cs h k = k
+appends_both (Some xs) (Some ys) (Some zs) bs cs h k = k ∙ ap (λ (l : List ℕ). l ++ cs) h ∙ append_assoc xs bs cs
+
+rest : (text : List ℕ) (m : ℕ) → take (length text - m) (drop m text) ≡ drop m text
+rest text m = take_all (length text - m) (drop m text) (rw length-drop (omega arith))
+
+pub appends_more : (old mid new : Option (List ℕ)) (text : List ℕ) (m n : ℕ) → Appends old mid (take m text)
+    → Appends mid new (take n (take (length text - m) (drop m text))) → Appends old new (take (m + n) text)
+appends_more old mid new text m n h k = rw take-add (appends_both old mid new _ _ h (rw (rest text m) at k))
 
 -- bytes that leave some of the text, and bytes that leave none
 pub bytes_more : (before n size : ℕ) → before + n < size → St.More (before + n) ≡ after_write before (Wr.Bytes n) size
@@ -51,6 +68,15 @@ step_more (Wr.Bytes n) before size count e = chosen (ltb (before + n) size) refl
         let h : before + n < size = ltb-true (before + n) size l in
         (omega arith, omega arith)
     chosen false l q = let z : ◌≡◌ {A = ℕ} 0 1 = cc in absurd (omega arith)
+
+-- and comes after the bytes of all before it
+pub step_count : (wrote : Wrote) (before size count : ℕ) → St.More count ≡ after_write before wrote size → count ≡ before + bytes_taken wrote
+step_count Wr.Failed before size count e = cc
+step_count (Wr.Bytes n) before size count e = chosen (ltb (before + n) size) e
+  where
+    chosen : (b : Bool) → St.More count ≡ cond b (St.More (before + n)) (St.Done Wn.Whole) → count ≡ before + n
+    chosen true q = cc
+    chosen false q = cc
 
 -- the next one takes no more than is left, and leaves fewer
 pub next_fits : (wrote : Wrote) (count rest size : ℕ) → WroteWithin rest wrote → count < size → rest ≡ size - count → count + bytes_taken wrote ≤ size

@@ -1,5 +1,5 @@
 -- What the answers of writes mean, and what they make of a text.
-use Rattle.std.specs.Prelude.{ℕ, ◌+◌, ◌<◌, ◌≤◌, min, ◌≡◌, Bool, true, false, cond, eqb, ltb, ℤ, pos, negsuc}
+use Rattle.std.specs.Prelude.{ℕ, ◌+◌, ◌<◌, ◌≤◌, min, ◌≡◌, Bool, true, false, cond, eqb, ltb, List, take, Result, Ok, Err}
 use Rattle.program_output.specs.declared.Wrote.{Wrote}
 use Rattle.program_output.specs.declared.Wrote.TheVariants as Wr
 use Rattle.program_output.specs.declared.Written.{Written}
@@ -8,10 +8,10 @@ use Rattle.program_output.specs.declared.WriteStep.{WriteStep}
 use Rattle.program_output.specs.declared.WriteStep.TheVariants as St
 use Rattle.program_output.specs.declared.Printed.{Printed}
 
--- A write's answer, with `size` bytes to take: below 0 it failed, and so it did where it took none; any other is a number of bytes, never over the size.
-abbrev pub write_meaning : ℤ → ℕ → Wrote
-write_meaning (negsuc k) size = Wr.Failed
-write_meaning (pos k) size = cond (eqb (min k size) 0) Wr.Failed (Wr.Bytes (min k size))
+-- A write's answer, with `size` bytes to take: an error is a failure, and so it is where it took none; any other is a number of bytes, never over the size.
+abbrev pub write_meaning : {E : Type 0} → Result ℕ E → ℕ → Wrote
+write_meaning (Err e) size = Wr.Failed
+write_meaning (Ok k) size = cond (eqb (min k size) 0) Wr.Failed (Wr.Bytes (min k size))
 
 -- it took at least one byte, and no more than there were
 abbrev pub WroteWithin : ℕ → Wrote → Type 0
@@ -34,6 +34,10 @@ pub record TextWritten (r : Printed) (size : ℕ) : Type 0 where
   pub length : r.size ≡ size
   pub within : r.before + bytes_taken r.last ≤ r.size
   pub ended : St.Done r.written ≡ after_write r.before r.last r.size
+
+-- the bytes of a text that its writes took
+abbrev pub text_taken : Printed → List ℕ → List ℕ
+text_taken r text = take (r.before + bytes_taken r.last) text
 
 -- all of a text was taken
 abbrev pub is_whole : Written → Bool

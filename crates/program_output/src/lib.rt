@@ -1,16 +1,21 @@
 // Writing the text of a program. The call stands in `write_once` alone, and what is decided by its answer in functions with an equation: the loop in `write`
-// only passes values on. A failure is told on standard error by the name of the call and errno's text, as `write: Broken pipe`.
+// only passes values on. A failure is told on standard error by the name of the call and the system's text, as `write: Broken pipe`.
 //
-// No contract can say what a call of the system moves. So this stays unproved, and tests/program.rs runs a program on outputs that fail:
-// - which bytes are written, and where: `print` and `print_error` promise the length of the text that was handed to them and what the last write's answer
-//   means, not that the bytes of this text are what is written;
+// `print` and `print_error` promise that the bytes which a writer got are the first of the text, as many as its writes took. Standard output is a writer of which
+// no contract can say what it got. So this stays unproved, and tests/program.rs runs a program on outputs that fail:
+// - that the bytes which standard output took are those that come out of the program;
 // - that a failure is told on standard error.
 #![tactic(auto)]
 
-ghost use Rattle.std.specs.Prelude.{◌≡◌, ◌+◌, ◌≤◌, length};
-ghost use Rattle.program_output.specs.Written.{write_meaning, WroteWithin, bytes_taken, after_write, TextWritten};
+ghost use Rattle.std.specs.Prelude.{◌≡◌, ◌+◌, ◌≤◌, length, take};
+ghost use Rattle.std.specs.Io.KnownBytes.{Appends};
+ghost use Rattle.program_output.specs.Written.{write_meaning, WroteWithin, bytes_taken, after_write, TextWritten, text_taken};
 
-use libc::{STDERR_FILENO, STDOUT_FILENO};
+mod failure;
+
+pub use failure::fail;
+use std::io;
+use std::io::Write;
 
 // What a write came to.
 #[derive(Clone, Copy)]
@@ -43,24 +48,37 @@ pub struct Printed {
 }
 
 // What a write's answer means. That no byte was taken is a failure.
-fn write_meaning(got: isize, rest: &[u8]) -> Wrote
+fn write_meaning(got: io::Result<usize>, rest: &[u8]) -> Wrote
     ensures value { result ≡ write_meaning got (length rest.now) }
     ensures wrote_within { WroteWithin (length rest.now) result }
 {
-    let taken = io::count(got, rest);
+    let Ok(count) = got else {
+        return Wrote::Failed;
+    };
+    let taken = count.min(rest.len());
     if taken == 0 {
         return Wrote::Failed;
     }
     Wrote::Bytes(taken)
 }
 
-// Writes once, from the first byte on. A failure is told at once, while errno is its own.
-fn write_once(fd: i32, rest: &[u8]) -> Wrote
-    ensures { WroteWithin (length rest.now) result }
+// What a write that failed is told as. One that took no byte left no error number.
+fn failure_of(got: io::Result<usize>) -> io::Error {
+    match got {
+        Ok(_) => io::Error::from_raw_os_error(0),
+        Err(error) => error,
+    }
+}
+
+// Writes once, from the first byte on, and keeps a failure to be told.
+fn write_once<W: Write>(out: &mut W, rest: &[u8], failure: &mut Option<io::Error>) -> Wrote
+    ensures wrote_within { WroteWithin (length rest.now) result }
+    ensures bytes { Appends (W.contents out.old) (W.contents out.new) (take (bytes_taken result) rest.now) }
 {
-    let wrote = write_meaning(libc::write(fd, rest), rest);
+    let got = out.write(rest);
+    let wrote = write_meaning(got, rest);
     if let Wrote::Failed = wrote {
-        os::fail(b"write");
+        *failure = Some(failure_of(got));
     }
     wrote
 }
@@ -84,8 +102,9 @@ fn after_write(before: usize, wrote: Wrote, size: usize) -> WriteStep
 }
 
 // Writes until all of the text is taken or a write fails. An empty text needs no write.
-fn write(fd: i32, text: &[u8]) -> Printed
-    ensures { TextWritten result (length text.now) }
+fn write<W: Write>(out: &mut W, text: &[u8], failure: &mut Option<io::Error>) -> Printed
+    ensures written { TextWritten result (length text.now) }
+    ensures bytes { Appends (W.contents out.old) (W.contents out.new) (text_taken result text.now) }
 {
     let size = text.len();
     let mut before: usize = 0;
@@ -94,7 +113,7 @@ fn write(fd: i32, text: &[u8]) -> Printed
         let step = after_write(before, last, size);
         match step {
             WriteStep::More(count) => {
-                last = write_once(fd, &text[count..]);
+                last = write_once(out, &text[count..], failure);
                 before = count;
             }
             WriteStep::Done(written) => {
@@ -109,16 +128,30 @@ fn write(fd: i32, text: &[u8]) -> Printed
     }
 }
 
+// Tells a failed write on standard error.
+fn tell<E: Write>(errors: &mut E, failure: Option<io::Error>) {
+    if let Some(error) = failure {
+        fail(errors, b"write", error);
+    }
+}
+
 // Writes the text to standard output.
-pub fn print(text: &[u8]) -> Printed
-    ensures { TextWritten result (length text.now) }
+pub fn print<W: Write, E: Write>(out: &mut W, errors: &mut E, text: &[u8]) -> Printed
+    ensures written { TextWritten result (length text.now) }
+    ensures bytes { Appends (W.contents out.old) (W.contents out.new) (text_taken result text.now) }
 {
-    write(STDOUT_FILENO, text)
+    let mut failure = None;
+    let printed = write(out, text, &mut failure);
+    tell(errors, failure);
+    printed
 }
 
 // Writes the text to standard error.
-pub fn print_error(text: &[u8]) -> Printed
+pub fn print_error<E: Write>(errors: &mut E, text: &[u8]) -> Printed
     ensures { TextWritten result (length text.now) }
 {
-    write(STDERR_FILENO, text)
+    let mut failure = None;
+    let printed = write(errors, text, &mut failure);
+    tell(errors, failure);
+    printed
 }

@@ -1,0 +1,32 @@
+// Telling a failure of the system on standard error.
+use std::io::{Error, Write};
+use std::str;
+
+// The system's text for an error, without its number.
+fn system_text(told: &[u8]) -> &str {
+    let Ok(text) = str::from_utf8(told) else {
+        return "";
+    };
+    match text.rsplit_once(" (os error ") {
+        Some((words, _)) => words,
+        None => text,
+    }
+}
+
+// How the error is told, at the start of told, and the room that is left after it.
+fn put_error(error: Error, told: &mut [u8]) -> usize {
+    let mut rest: &mut [u8] = told;
+    let _ = write!(rest, "{error}");
+    rest.len()
+}
+
+// Writes a line to standard error: what failed, as the caller names it, a colon and the system's text. What standard error does not take is not told.
+pub fn fail<E: Write>(errors: &mut E, what: &[u8], error: Error) {
+    let mut told = [0u8; 256];
+    let left = put_error(error, &mut told);
+    let text = system_text(&told[..told.len().saturating_sub(left)]);
+    let _ = errors.write_all(what);
+    let _ = errors.write_all(b": ");
+    let _ = errors.write_all(text.as_bytes());
+    let _ = errors.write_all(b"\n");
+}
