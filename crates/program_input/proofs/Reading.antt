@@ -1,33 +1,38 @@
 -- Laws of what a read's answer means, and of what it makes of a chunk.
-use Prim.Native.Nat.{ℕ, ◌+◌, ◌-◌, ◌<◌, ◌≤◌, min}
+use Prim.Native.Nat.{ℕ, ◌+◌, ◌-◌, ◌<◌, ◌≤◌}
 use mathlib.Core.Path.{◌≡◌, refl, sym, subst, ◌∙◌}
-use mathlib.Core.Bool.{Bool, true, false, cond, true≢false}
+use mathlib.Core.Bool.{Bool, true, false, cond}
 use native.Mathlib.Omega.{arith}
 use lib.Dec.{ltb}
-use lib.IntN.{ℤ, pos, negsuc}
-use lib.Signed.{lt_z}
-use borrow.Author.Tests.{ltb-true, ltb-false, lt-ltb, le-ltb, eq-eqb, ne_eqb}
-use Rattle.io.specs.Counts.{clamp_len}
+use lib.ListN.{length, take}
+use mathlib.Core.List.{List, [], ◌++◌}
+use borrow.Author.Tests.{ltb-true, ltb-false, lt-ltb, le-ltb}
+use Rattle.std.proofs.Common.{Option, None, Some, append_assoc, ap}
+use Rattle.std.proofs.lemmas.List.{append-nil, take-append-le}
+use Rattle.std.proofs.Math.Seq.{take-append_seam, take-append-add}
+use Rattle.std.specs.Io.KnownBytes.{Keeps, Consumes, IsAtEnd}
 use Rattle.program_input.specs.declared.Read.{Read}
 use Rattle.program_input.specs.declared.Read.TheVariants as Rd
 use Rattle.program_input.specs.declared.Chunk.{Chunk}
 use Rattle.program_input.specs.declared.Chunk.TheVariants as Ch
-use Rattle.program_input.specs.declared.ReadStep.{ReadStep}
 use Rattle.program_input.specs.declared.ReadStep.TheVariants as St
-use Rattle.program_input.specs.Chunk.{read_meaning, ReadWithin, ReadsWithin, after_read, ChunkWithin, chunk_bytes}
+use Rattle.program_input.specs.Chunk.{ReadWithin, ReadsWithin, after_read, ChunkWithin, chunk_bytes, ReadTakes, ChunkTakes}
 
--- the three answers
-pub read_failed : (got : ℤ) (room : ℕ) → lt_z got (pos 0) ≡ true → Rd.Failed ≡ read_meaning got room
-read_failed (pos k) room e = absurd (omega (arith, ltb-true k 0 e))
-read_failed (negsuc k) room e = refl
+-- known bytes of which none are taken, and of which one part is after another
+pub consumes_none : (old : Option (List ℕ)) → Consumes old old []
+consumes_none None = tt
+consumes_none (Some xs) = refl
 
-pub read_end : (got : ℤ) (room n : ℕ) → lt_z got (pos 0) ≡ false → n ≡ clamp_len got room → n ≡ 0 → Rd.End ≡ read_meaning got room
-read_end (pos k) room n e q z = rw (eq-eqb (min k room) 0 (sym q ∙ z))
-read_end (negsuc k) room n e q z = absurd (true≢false e)
+keeps_consumes : (old new : Option (List ℕ)) → Keeps old new → Consumes old new []
+keeps_consumes None new h = tt
+keeps_consumes (Some xs) None h = h
+keeps_consumes (Some xs) (Some ys) h = sym h
 
-pub read_bytes : (got : ℤ) (room n : ℕ) → lt_z got (pos 0) ≡ false → n ≡ clamp_len got room → (n ≡ 0 → ⊥) → Rd.Bytes n ≡ read_meaning got room
-read_bytes (pos k) room n e q z = rw (← q, ne_eqb n 0 z)
-read_bytes (negsuc k) room n e q z = absurd (true≢false e)
+consumes_both : (old mid new : Option (List ℕ)) (bs cs : List ℕ) → Consumes old mid bs → Consumes mid new cs → Consumes old new (bs ++ cs)
+consumes_both None mid new bs cs h k = tt
+consumes_both (Some xs) None new bs cs h k = absurd h
+consumes_both (Some xs) (Some ys) None bs cs h k = k
+consumes_both (Some xs) (Some ys) (Some zs) bs cs h k = h ∙ ap (λ (l : List ℕ). bs ++ l) k ∙ sym (append_assoc bs cs zs)
 
 -- bytes that leave room, and bytes that fill the buffer
 pub bytes_more : (before n room : ℕ) → before + n < room → St.More (before + n) ≡ after_read before (Rd.Bytes n) room
@@ -97,3 +102,44 @@ pub count_fits : (chunk : Chunk) (room : ℕ) → ChunkWithin room chunk → chu
 count_fits Ch.Failed room h = omega arith
 count_fits (Ch.Full n) room h = omega arith
 count_fits (Ch.Last n) room h = omega arith
+
+-- what the reads did to the known bytes by the last of them, with `before` bytes in the buffer before it
+abbrev pub SoFar : Option (List ℕ) → Option (List ℕ) → ℕ → Read → List ℕ → Type 0
+SoFar old new before Rd.Failed buf = Consumes old new (take before buf)
+SoFar old new before Rd.End buf = Consumes old new (take before buf) × IsAtEnd new
+SoFar old new before (Rd.Bytes n) buf = Consumes old new (take (before + n) buf)
+
+-- bytes that another read follows
+pub so_far_more : (read : Read) (before room count : ℕ) (old mid : Option (List ℕ)) (buf : List ℕ) → St.More count ≡ after_read before read room
+    → SoFar old mid before read buf → Consumes old mid (take count buf)
+so_far_more Rd.Failed before room count old mid buf e h = cc
+so_far_more Rd.End before room count old mid buf e h = cc
+so_far_more (Rd.Bytes n) before room count old mid buf e h = chosen (ltb (before + n) room) e
+  where
+    chosen : (b : Bool) → St.More count ≡ cond b (St.More (before + n)) (St.Done (Ch.Full (before + n))) → Consumes old mid (take count buf)
+    chosen true q = let z : count ≡ before + n = cc in rw z h
+    chosen false q = cc
+
+-- that read, into the part of the buffer after them
+pub so_far_next : (read : Read) (count : ℕ) (old mid new : Option (List ℕ)) (head rest tail : List ℕ) → count ≡ length head → 0 < length rest
+    → ReadWithin (length rest) read → Consumes old mid head → ReadTakes mid new read rest → SoFar old new count read (head ++ (rest ++ tail))
+so_far_next Rd.Failed count old mid new head rest tail e r w h k =
+    rw (e, take-append_seam) (subst (Consumes old new) (append-nil head) (consumes_both old mid new head [] h (keeps_consumes mid new k)))
+so_far_next Rd.End count old mid new head rest tail e r w h k =
+    (rw (e, take-append_seam) (subst (Consumes old new) (append-nil head) (consumes_both old mid new head [] h (keeps_consumes mid new k.0))), k.1 r)
+so_far_next (Rd.Bytes n) count old mid new head rest tail e r w h k =
+    let f : n ≤ length rest = w.1 in
+    rw (e, take-append-add, take-append-le n rest tail f) (consumes_both old mid new head (take n rest) h k)
+
+-- the last read
+pub so_far_done : (read : Read) (before room : ℕ) (chunk : Chunk) (old new : Option (List ℕ)) (buf : List ℕ) → St.Done chunk ≡ after_read before read room
+    → SoFar old new before read buf → ChunkTakes old new chunk buf
+so_far_done Rd.Failed before room chunk old new buf e h =
+    let q : chunk ≡ Ch.Failed = cc in rw q (before, h)
+so_far_done Rd.End before room chunk old new buf e h =
+    let q : chunk ≡ Ch.Last before = cc in rw q h
+so_far_done (Rd.Bytes n) before room chunk old new buf e h = chosen (ltb (before + n) room) e
+  where
+    chosen : (b : Bool) → St.Done chunk ≡ cond b (St.More (before + n)) (St.Done (Ch.Full (before + n))) → ChunkTakes old new chunk buf
+    chosen true q = cc
+    chosen false q = let z : chunk ≡ Ch.Full (before + n) = cc in rw z h

@@ -1,5 +1,6 @@
 -- What the answers of reads mean, and what they make of a chunk.
-use Rattle.std.specs.Prelude.{ℕ, ◌+◌, ◌<◌, ◌≤◌, min, ◌≡◌, cond, eqb, ltb, ℤ, pos, negsuc}
+use Rattle.std.specs.Prelude.{ℕ, ◌+◌, ◌<◌, ◌≤◌, min, ◌≡◌, cond, eqb, ltb, List, length, take, Option, Result, Ok, Err}
+use Rattle.std.specs.Io.KnownBytes.{Keeps, Consumes, IsAtEnd}
 use Rattle.program_input.specs.declared.Read.{Read}
 use Rattle.program_input.specs.declared.Read.TheVariants as Rd
 use Rattle.program_input.specs.declared.Chunk.{Chunk}
@@ -7,10 +8,17 @@ use Rattle.program_input.specs.declared.Chunk.TheVariants as Ch
 use Rattle.program_input.specs.declared.ReadStep.{ReadStep}
 use Rattle.program_input.specs.declared.ReadStep.TheVariants as St
 
--- A read's answer, with `room` bytes to put to: below 0 it failed, 0 is the end of the input, any other is a number of bytes, never over the room.
-abbrev pub read_meaning : ℤ → ℕ → Read
-read_meaning (negsuc k) room = Rd.Failed
-read_meaning (pos k) room = cond (eqb (min k room) 0) Rd.End (Rd.Bytes (min k room))
+-- A read's answer, with `room` bytes to put to: an error is a failure, 0 is the end of the input, any other is a number of bytes, never over the room.
+abbrev pub read_meaning : {E : Type 0} → Result ℕ E → ℕ → Read
+read_meaning (Err e) room = Rd.Failed
+read_meaning (Ok k) room = cond (eqb (min k room) 0) Rd.End (Rd.Bytes (min k room))
+
+-- What a read did to the bytes that a reader has left, where those are known: it put the next of them to the start of a buffer, none where it failed, and none
+-- are left where it found the end and had room.
+abbrev pub ReadTakes : Option (List ℕ) → Option (List ℕ) → Read → List ℕ → Type 0
+ReadTakes old new Rd.Failed buf = Keeps old new
+ReadTakes old new Rd.End buf = Keeps old new × (0 < length buf → IsAtEnd new)
+ReadTakes old new (Rd.Bytes n) buf = Consumes old new (take n buf)
 
 -- it put at least one byte, and no more than there was room for
 abbrev pub ReadWithin : ℕ → Read → Type 0
@@ -41,3 +49,10 @@ abbrev pub chunk_bytes : Chunk → ℕ
 chunk_bytes (Ch.Full n) = n
 chunk_bytes (Ch.Last n) = n
 chunk_bytes Ch.Failed = 0
+
+-- What the reads of a chunk did to the bytes that a reader has left, where those are known: the next of them stand at the start of the buffer, all that were left
+-- where the input ended.
+abbrev pub ChunkTakes : Option (List ℕ) → Option (List ℕ) → Chunk → List ℕ → Type 0
+ChunkTakes old new Ch.Failed buf = (n : ℕ) × Consumes old new (take n buf)
+ChunkTakes old new (Ch.Full n) buf = Consumes old new (take n buf)
+ChunkTakes old new (Ch.Last n) buf = Consumes old new (take n buf) × IsAtEnd new

@@ -1,13 +1,16 @@
 // Reading the input of a program in chunks. The call stands in `read_once` alone, and what is decided by its answer in functions with an equation: the loop in
-// `fill` only passes values on. A failure is told on standard error by the name of the call and errno's text, as `read: Is a directory`.
+// `fill` only passes values on. A failure is told on standard error by the name of the call and the system's text, as `read: Is a directory`.
 //
-// No contract can say what a call of the system moves. So this stays unproved, and tests/program.rs runs a program on inputs that fail:
-// - that the bytes in a buffer come from the descriptor: `fill` promises how many of them are a chunk's, not which they are;
+// `fill` promises that a chunk's bytes are the next that the reader had, in their order. Standard input is a reader of which no contract can say what it has. So
+// this stays unproved, and tests/program.rs runs a program on inputs that fail:
+// - that the bytes which standard input gives are those that were put in;
 // - that a failure is told on standard error.
 #![tactic(auto)]
 
 ghost use Rattle.std.specs.Prelude.{◌≡◌, length};
-ghost use Rattle.program_input.specs.Chunk.{read_meaning, ReadWithin, ReadsWithin, after_read, ChunkWithin, chunk_bytes};
+ghost use Rattle.program_input.specs.Chunk.{read_meaning, ReadWithin, ReadsWithin, after_read, ChunkWithin, chunk_bytes, ReadTakes, ChunkTakes};
+
+use std::io;
 
 // What a read came to.
 #[derive(Clone, Copy)]
@@ -33,29 +36,30 @@ enum ReadStep {
 }
 
 // What a read's answer means.
-fn read_meaning(got: isize, rest: &[u8]) -> Read
+fn read_meaning(got: io::Result<usize>, rest: &[u8]) -> Read
     ensures value { result ≡ read_meaning got (length rest.now) }
     ensures read_within { ReadWithin (length rest.now) result }
 {
-    if got < 0 {
+    let Ok(answer) = got else {
         return Read::Failed;
-    }
-    let count = io::count(got, rest);
+    };
+    let count = answer.min(rest.len());
     if count == 0 {
         return Read::End;
     }
     Read::Bytes(count)
 }
 
-// Reads once, to the start of rest. A failure is told at once, while errno is its own.
-fn read_once(fd: i32, rest: &mut [u8]) -> Read
-    ensures { ReadWithin (length rest.new) result }
+// Reads once, to the start of rest. A failure is told at once.
+fn read_once<R: io::Read, E: io::Write>(input: &mut R, errors: &mut E, rest: &mut [u8]) -> Read
+    ensures read_within { ReadWithin (length rest.new) result }
+    ensures bytes { ReadTakes (R.remaining input.old) (R.remaining input.new) result rest.new }
 {
-    let read = read_meaning(libc::read(fd, rest), rest);
-    if let Read::Failed = read {
-        os::fail(b"read");
+    let got = input.read(rest);
+    if let Err(error) = got {
+        program_output::fail(errors, b"read", error);
     }
-    read
+    read_meaning(got, rest)
 }
 
 // What follows a read after `before` bytes, in a buffer of `room` bytes.
@@ -78,8 +82,9 @@ fn after_read(before: usize, read: Read, room: usize) -> ReadStep
 }
 
 // Reads a chunk to the start of buf. A read may be short, as from a pipe.
-pub fn fill(fd: i32, buf: &mut [u8]) -> Chunk
-    ensures { ChunkWithin (length buf.new) result }
+pub fn fill<R: io::Read, E: io::Write>(input: &mut R, errors: &mut E, buf: &mut [u8]) -> Chunk
+    ensures chunk_within { ChunkWithin (length buf.new) result }
+    ensures bytes { ChunkTakes (R.remaining input.old) (R.remaining input.new) result buf.new }
 {
     let mut before: usize = 0;
     let mut last = Read::Bytes(0);
@@ -87,7 +92,7 @@ pub fn fill(fd: i32, buf: &mut [u8]) -> Chunk
         let step = after_read(before, last, buf.len());
         match step {
             ReadStep::More(count) => {
-                last = read_once(fd, &mut buf[count..]);
+                last = read_once(input, errors, &mut buf[count..]);
                 before = count;
             }
             ReadStep::Done(chunk) => {
