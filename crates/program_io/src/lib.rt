@@ -10,6 +10,7 @@ ghost use Rattle.program_io.specs.Next.{after_full, after_chunk, is_continue, is
 
 use program_input::Chunk;
 use program_output::{Printed, Written};
+use std::io::Write;
 
 // The most chunks that are read: a loop has to end, and nothing says that the input does.
 pub const CHUNKS: u64 = 1 << 40;
@@ -49,13 +50,13 @@ fn next_after(full: u64, chunk: Chunk, written: Written) -> Next
 }
 
 // What follows a chunk after `full` others, once its text was printed. An input that is too long is told on standard error.
-pub fn after_chunk(full: u64, chunk: Chunk, printed: Printed) -> Next
+pub fn after_chunk<E: Write>(errors: &mut E, full: u64, chunk: Chunk, printed: Printed) -> Next
     ensures { result ≡ after_chunk full (is_whole printed.written) chunk }
 {
     let written = printed.written;
     let next = next_after(full, chunk, written);
     if let Next::TooLong = next {
-        program_output::print_error(b"input too long\n");
+        program_output::print_error(errors, b"input too long\n");
     }
     next
 }
