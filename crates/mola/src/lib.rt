@@ -1,4 +1,4 @@
-// The functions for C and Rust (include/mola.h). Each answers in numbers: a refusal is its number, which is never 0.
+// The functions for C and Rust (include/mola.h), which mola_c exports. Each answers in numbers: a refusal is its number, which is never 0.
 #![tactic(auto)]
 
 ghost use Rattle.std.specs.Prelude.{◌≡◌, ◌%◌};
@@ -40,8 +40,7 @@ pub struct FieldsAnswer {
 }
 
 // The refusal number of a packet whose sum stands at word sum_word, or 0.
-#[unsafe(no_mangle)]
-pub extern "C" fn mola_check_packet(packet: &[u8], sum_word: usize) -> u8
+pub fn mola_check_packet(packet: &[u8], sum_word: usize) -> u8
     ensures { result ≡ read_refusal packet.now sum_word }
 {
     packet_check::packet_refusal(packet, sum_word)
@@ -71,8 +70,7 @@ fn no_fields() -> PacketFields
 }
 
 // The refusal number of a packet whose sum stands at word sum_word, or 0, and its fields and arrays.
-#[unsafe(no_mangle)]
-pub extern "C" fn mola_read_packet(packet: &[u8], sum_word: usize) -> FieldsAnswer
+pub fn mola_read_packet(packet: &[u8], sum_word: usize) -> FieldsAnswer
     ensures { result ≡ as_read (read_due packet.now sum_word) (read_arrays packet.now sum_word) }
 {
     let read = packet::read_packet(packet, sum_word);
@@ -93,40 +91,35 @@ pub extern "C" fn mola_read_packet(packet: &[u8], sum_word: usize) -> FieldsAnsw
 }
 
 // The sum of the words of any bytes, carries out of 16 bits dropped. A last odd byte is the upper half of a word.
-#[unsafe(no_mangle)]
-pub extern "C" fn mola_word_sum(bytes: &[u8]) -> u16
+pub fn mola_word_sum(bytes: &[u8]) -> u16
     ensures { result ≡ word_sum bytes.now % 65536 }
 {
     checksum::word_sum(bytes)
 }
 
 // The packet sum of any bytes, with the word sum_word taken as zero.
-#[unsafe(no_mangle)]
-pub extern "C" fn mola_packet_sum(bytes: &[u8], sum_word: usize) -> u16
+pub fn mola_packet_sum(bytes: &[u8], sum_word: usize) -> u16
     ensures { result ≡ packet_sum bytes.now sum_word }
 {
     checksum::packet_sum(bytes, sum_word)
 }
 
 // The number of the first bin of a packet with this HSTART.
-#[unsafe(no_mangle)]
-pub extern "C" fn mola_first_bin(hstart: u16) -> u16
+pub fn mola_first_bin(hstart: u16) -> u16
     ensures { result ≡ first_bin hstart }
 {
     packet_bins::first_bin(hstart)
 }
 
 // Where each bin of a packet with this HSTART starts, in metres.
-#[unsafe(no_mangle)]
-pub extern "C" fn mola_bin_starts(hstart: u16, starts: &mut [u32; BINS])
+pub fn mola_bin_starts(hstart: u16, starts: &mut [u32; BINS])
     ensures { starts.new ≡ bin_starts hstart }
 {
     *starts = packet_bins::bin_starts(hstart);
 }
 
 // Writes a packet into out, with its sum at word sum_word: the refusal number, or 0. A refusal leaves out as it was.
-#[unsafe(no_mangle)]
-pub extern "C" fn mola_write_packet(
+pub fn mola_write_packet(
     fields: PacketFields,
     temperatures: &[u8; TEMPERATURES],
     readings: &[u8; READINGS],
@@ -137,7 +130,7 @@ pub extern "C" fn mola_write_packet(
 ) -> u8
     ensures { (result ≡ write_refusal fields carried.now sum_word out.old)
         × (out.new ≡ write_bytes fields
-        (record { temperatures = temperatures.entry.now; readings = readings.now; bins = bins.now })
+        (record { temperatures = temperatures.now; readings = readings.now; bins = bins.now })
         carried.now sum_word out.old) }
 {
     let arrays = PacketArrays {
@@ -153,16 +146,14 @@ pub extern "C" fn mola_write_packet(
 }
 
 // The refusal number of a PEDR record, or 0.
-#[unsafe(no_mangle)]
-pub extern "C" fn mola_check_record(bytes: &[u8]) -> u8
+pub fn mola_check_record(bytes: &[u8]) -> u8
     ensures { result ≡ record_refusal bytes.now }
 {
     pedr_check::record_refusal(bytes)
 }
 
 // Reads a PEDR record: its refusal number, or 0, and what it holds.
-#[unsafe(no_mangle)]
-pub extern "C" fn mola_read_record(bytes: &[u8]) -> RecordNumbers
+pub fn mola_read_record(bytes: &[u8]) -> RecordNumbers
     ensures { result ≡ record_numbers (pedr.read_due bytes.now) (pedr.read_arrays bytes.now)
         (pedr.read_runs bytes.now) (pedr.read_carried bytes.now) (pedr.read_uninterpreted bytes.now) }
 {
@@ -170,8 +161,7 @@ pub extern "C" fn mola_read_record(bytes: &[u8]) -> RecordNumbers
 }
 
 // Reads one shot of a PEDR record: the refusal number, or 0, and the shot.
-#[unsafe(no_mangle)]
-pub extern "C" fn mola_read_shot(bytes: &[u8], shot: usize) -> ShotRead
+pub fn mola_read_shot(bytes: &[u8], shot: usize) -> ShotRead
     ensures { result ≡ shot_read (shot_due bytes.now shot) }
 {
     pedr_shot_c::read_shot(bytes, shot)
@@ -179,8 +169,7 @@ pub extern "C" fn mola_read_shot(bytes: &[u8], shot: usize) -> ShotRead
 
 // Writes a record of these fields, engineering block (by its frame), arrays (a class by its number), runs, carried bytes of the block and uninterpreted bytes
 // into out: the refusal number, or 0. A block whose frame is none of 1 to 7 is of no record's frame, and has no carried bytes. A refusal leaves out as it was.
-#[unsafe(no_mangle)]
-pub extern "C" fn mola_write_record(
+pub fn mola_write_record(
     fields: RecordFields,
     block: BlockNumbers,
     arrays: ArrayNumbers,
@@ -198,8 +187,7 @@ pub extern "C" fn mola_write_record(
 }
 
 // Opens the session with this packet at position 0. A refused opening leaves the session as it came.
-#[unsafe(no_mangle)]
-pub extern "C" fn mola_open(
+pub fn mola_open(
     session: &mut Session,
     store: &mut [u8],
     packet: &[u8],
@@ -215,8 +203,7 @@ pub extern "C" fn mola_open(
 }
 
 // Holds the packet at its position, in the position's 1,080 bytes of the store.
-#[unsafe(no_mangle)]
-pub extern "C" fn mola_offer(session: &mut Session, store: &mut [u8], packet: &[u8]) -> Answer
+pub fn mola_offer(session: &mut Session, store: &mut [u8], packet: &[u8]) -> Answer
     ensures { OffersAs session.old store.old packet.now result session.new store.new }
 {
     let offered = reorder_c::offer(*session, store, packet);
@@ -225,8 +212,7 @@ pub extern "C" fn mola_offer(session: &mut Session, store: &mut [u8], packet: &[
 }
 
 // Serves the next position.
-#[unsafe(no_mangle)]
-pub extern "C" fn mola_serve(session: &mut Session, out: &mut [u8], store: &[u8]) -> Answer
+pub fn mola_serve(session: &mut Session, out: &mut [u8], store: &[u8]) -> Answer
     ensures { ServesAs session.old out.old store.now result session.new out.new }
 {
     let served = reorder_c::serve(*session, out, store);
@@ -235,8 +221,7 @@ pub extern "C" fn mola_serve(session: &mut Session, out: &mut [u8], store: &[u8]
 }
 
 // Serves until a serve waits or the budget is spent, and describes the answers in the lent numbers.
-#[unsafe(no_mangle)]
-pub extern "C" fn mola_drain(
+pub fn mola_drain(
     session: &mut Session,
     out: &mut [u8],
     store: &[u8],
@@ -252,8 +237,7 @@ pub extern "C" fn mola_drain(
 }
 
 // Passes next over, by hand.
-#[unsafe(no_mangle)]
-pub extern "C" fn mola_pass(session: &mut Session) -> Answer
+pub fn mola_pass(session: &mut Session) -> Answer
     ensures { PassesAs session.old result session.new }
 {
     let passed = reorder_c::pass(*session);
