@@ -7,5 +7,4 @@ pub returns : goal.returns
 returns c =
     let d = c.drain.ensures in
     let f = c.offer-offered.ensures in
-    let o = c in
-    (short _ _ _ _ _ _ (from_none _ _ _ _ o.no_session.ensures o.«open».ensures) f d.0, d.1)
+    (short _ _ _ _ _ _ (from_none _ _ _ _ c.no_session.ensures c.open-opened.ensures) f d.0, d.1)
