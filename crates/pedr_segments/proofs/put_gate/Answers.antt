@@ -1,10 +1,10 @@
 -- Four stores, one for each column.
-use mathlib.Core.Path.{◌≡◌, refl, sym, ap, ◌∙◌}
+use mathlib.Core.Path.{◌≡◌, refl}
 use lib.ListN.{length}
 use Rattle.pedr_arrays.specs.declared.ChannelArrays.{ChannelArrays}
 use Rattle.pedr_segments.specs.Parts.{gate_parts}
 use Rattle.pedr_segments.proofs.Fits.{gate_columns, gate_fits}
-use Rattle.layout.proofs.Store.{Puts, stop, ◌▸◌, puts_join}
+use Rattle.layout.proofs.Store.{stop, ◌▸◌, puts_join}
 use borrow.Author.Rules.{rules}
 use Rattle.pedr_segments.proofs.put_gate.Goals as goal
 

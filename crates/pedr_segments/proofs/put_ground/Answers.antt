@@ -1,6 +1,6 @@
 -- One store for each column, but two for the ground.
-use mathlib.Core.Path.{◌≡◌, refl, sym, ap, ◌∙◌}
-use lib.ListN.{length, length-map}
+use mathlib.Core.Path.{◌≡◌, refl, ap, ◌∙◌}
+use lib.ListN.{length}
 use mir.Syntax.{w32}
 use mir.Val.{SFits}
 use Rattle.octets.proofs.Store.{put_length}
@@ -22,10 +22,7 @@ lengths s =
     let power = shots.1.1.1.1.1.1.1.1.0 in
     let class = shots.1.1.1.1.1.1.1.1.1.0 in
     let xyz = s.well_formed.1.0.1.1.1.1.0 in
-    (search rules, search rules, sym (length-map s.args.arrays.shots.class _) ∙ class.1.0.1)
-
-pub shape_of-out : goal.shape_of-out
-shape_of-out c = ap length (returns c) ∙ put_length _ _ _
+    (search rules, search rules, class.1.0.1)
 
 pub returns : goal.returns
 returns c =
@@ -38,3 +35,6 @@ returns c =
     ▸ c.put_u16x20.ensures
     ▸ run_stored 2 _ _ _ _ _ c.class_numbers-numbers.ensures c.put_u16x20-2.ensures
     ▸ stop)
+
+pub shape_of-out : goal.shape_of-out
+shape_of-out c = ap length (returns c) ∙ put_length _ _ _

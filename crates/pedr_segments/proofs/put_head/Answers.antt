@@ -17,9 +17,6 @@ fit : (s : goal.After-slice_known-9-1) → SFits w32 s.args.fields.time.whole ×
     × SFits w32 s.args.fields.position.latitude × SFits w32 s.args.fields.position.longitude
 fit s = (search rules, search rules, search rules, search rules)
 
-pub shape_of-out : goal.shape_of-out
-shape_of-out c = ap length (returns c) ∙ put_length _ _ _
-
 pub returns : goal.returns
 returns c =
     let s = c in
@@ -35,3 +32,6 @@ returns c =
     ▸ refl
     ▸ quality_stored s.args.fields.quality _ _ _ c.quality_word-word.ensures c.write_u32-4.ensures
     ▸ stop)
+
+pub shape_of-out : goal.shape_of-out
+shape_of-out c = ap length (returns c) ∙ put_length _ _ _

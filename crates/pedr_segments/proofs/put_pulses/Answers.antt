@@ -1,9 +1,9 @@
 -- Five stores, one for each column.
-use mathlib.Core.Path.{◌≡◌, refl, sym, ap, ◌∙◌}
+use mathlib.Core.Path.{◌≡◌, refl}
 use lib.ListN.{length}
 use Rattle.pedr_segments.specs.Parts.{pulse_parts}
 use Rattle.pedr_segments.proofs.Fits.{pulse_columns, pulse_fits}
-use Rattle.layout.proofs.Store.{Puts, stop, ◌▸◌, puts_join}
+use Rattle.layout.proofs.Store.{stop, ◌▸◌, puts_join}
 use borrow.Author.Rules.{rules}
 use Rattle.pedr_segments.proofs.put_pulses.Goals as goal
 

@@ -20,9 +20,6 @@ fit s = let pointing = s.well_formed.0.1.1.1.1.1.1.0 in (search rules, search ru
 twenty : (s : goal.After-slice_known-8-1) → length s.args.shots.radius ≡ 20
 twenty s = let radius = s.well_formed.1.0.1.1.0 in search rules
 
-pub shape_of-out : goal.shape_of-out
-shape_of-out c = ap length (returns c) ∙ put_length _ _ _
-
 pub returns : goal.returns
 returns c =
     let s = c in
@@ -36,3 +33,6 @@ returns c =
     ▸ signed_stored w32 4 32 s.args.fields.pointing.declination _ _ _ f.1 c.write_i32-2.ensures
     ▸ signed_stored w32 4 32 s.args.fields.pointing.twist _ _ _ f.2 c.write_i32-3.ensures
     ▸ stop)
+
+pub shape_of-out : goal.shape_of-out
+shape_of-out c = ap length (returns c) ∙ put_length _ _ _

@@ -1,10 +1,8 @@
 -- Six stores, one for each column.
-use mathlib.Core.Path.{◌≡◌, refl, sym, ap, ◌∙◌}
-use lib.ListN.{length}
+use mathlib.Core.Path.{refl}
 use Rattle.pedr_segments.specs.Parts.{receiver_parts}
 use Rattle.pedr_segments.proofs.Fits.{receiver_columns, receiver_fits}
-use Rattle.layout.proofs.Store.{Puts, stop, ◌▸◌, puts_join}
-use borrow.Author.Rules.{rules}
+use Rattle.layout.proofs.Store.{stop, ◌▸◌, puts_join}
 use Rattle.pedr_segments.proofs.put_receiver.Goals as goal
 
 pub returns : goal.returns

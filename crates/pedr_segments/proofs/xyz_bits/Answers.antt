@@ -1,5 +1,5 @@
 -- Element by element.
-use Prim.Native.Nat.{ℕ, suc}
+use Prim.Native.Nat.{ℕ}
 use mathlib.Core.Path.{◌≡◌, ap, ◌∙◌}
 use mathlib.Core.List.{List, [], ◌∷◌, map}
 use native.Mathlib.Omega.{arith}
@@ -19,18 +19,14 @@ three f (x ∷ y ∷ []) a b c l p q r = absurd (omega arith)
 three f (x ∷ y ∷ z ∷ []) a b c l p q r = λ i. p i ∷ q i ∷ r i ∷ []
 three f (x ∷ y ∷ z ∷ u ∷ xs) a b c l p q r = absurd (omega arith)
 
--- the array's length, by its type
-length_is : (s : goal.Start) → length s.args.xyz ≡ 3
-length_is s = search rules
-
 pub returns : goal.returns
 returns c =
-    let s = c in
-    let xs = s.args.xyz in
-    let x = to_z-of_z w32 (get_or xs 0 (pos 0)) (record { sfits = c.i32_bits-arg-1.given }) in
-    let y = to_z-of_z w32 (get_or xs 1 (pos 0)) (record { sfits = c.i32_bits-arg-2-1.given }) in
-    let z = to_z-of_z w32 (get_or xs 2 (pos 0)) (record { sfits = c.i32_bits-arg-3-1.given }) in
-    three (complemented 32) xs _ _ _ (length_is s)
+    let xs = c.args.xyz in
+    let three_long : length xs ≡ 3 = search rules in
+    let x = to_z-of_z w32 (get_or xs 0 (pos 0)) (search rules) in
+    let y = to_z-of_z w32 (get_or xs 1 (pos 0)) (search rules) in
+    let z = to_z-of_z w32 (get_or xs 2 (pos 0)) (search rules) in
+    three (complemented 32) xs _ _ _ three_long
     (c.i32_bits-x.ensures ∙ ap (complemented 32) x)
     (c.i32_bits-y.ensures ∙ ap (complemented 32) y)
     (c.i32_bits-z.ensures ∙ ap (complemented 32) z)
