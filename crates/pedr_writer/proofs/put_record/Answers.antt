@@ -1,6 +1,6 @@
 -- Nine stores, one for each segment.
 use mathlib.Core.Path.{◌≡◌, sym, ap, ◌∙◌}
-use lib.ListN.{length, length-map}
+use lib.ListN.{length}
 use Rattle.layout.proofs.Store.{stop, ◌▸◌}
 use Rattle.pedr_block_writer.specs.Rows.{block_octets}
 use Rattle.pedr_block_writer.proofs.Fits.{block_length}
@@ -27,9 +27,9 @@ sizes s =
         pulse_width = let of_type = shots.1.1.1.1.1.1.0 in search rules;
         optical_width = let of_type = shots.1.1.1.1.1.1.1.0 in search rules;
         laser_power = let of_type = shots.1.1.1.1.1.1.1.1.0 in search rules;
-        class = sym (length-map a.shots.class _) ∙ shots.1.1.1.1.1.1.1.1.1.0.1.0.1;
-        encoder = sym (length-map a.shots.encoder _) ∙ shots.1.1.1.1.1.1.1.1.1.1.0.1.0.1;
-        failures = sym (length-map a.shots.failures _) ∙ shots.1.1.1.1.1.1.1.1.1.1.1.0.1.0.1;
+        class = shots.1.1.1.1.1.1.1.1.1.0.1.0.1;
+        encoder = shots.1.1.1.1.1.1.1.1.1.1.0.1.0.1;
+        failures = shots.1.1.1.1.1.1.1.1.1.1.1.0.1.0.1;
       };
       noise = search rules;
       thresholds = search rules;
@@ -48,18 +48,8 @@ block_size s =
       echo = let of_type = good.1.1.1.1.1.0 in search rules;
     })
 
--- the record is as long as the output
-
 pub put_tail-requires : goal.put_tail-requires
 put_tail-requires c = c.requires.0
-
-pub shape_of-out : goal.shape_of-out
-shape_of-out c =
-    let s = c in
-    let a = s.args in
-    ap length (returns c)
-    ∙ record_length a.fields a.block a.arrays a.runs a.carried.now a.uninterpreted.now (sizes s) (block_size s) s.requires.0
-    ∙ sym s.requires.1
 
 pub returns : goal.returns
 returns c =
@@ -76,3 +66,12 @@ returns c =
     ▸ c.put_block.ensures
     ▸ c.put_tail.ensures
     ▸ stop)
+
+-- the record is as long as the output
+pub shape_of-out : goal.shape_of-out
+shape_of-out c =
+    let s = c in
+    let a = s.args in
+    ap length (returns c)
+    ∙ record_length a.fields a.block a.arrays a.runs a.carried.now a.uninterpreted.now (sizes s) (block_size s) s.requires.0
+    ∙ sym s.requires.1

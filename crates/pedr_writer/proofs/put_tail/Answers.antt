@@ -9,16 +9,12 @@ use Rattle.layout.proofs.Store.{stop, ◌▸◌, puts_join}
 use borrow.Author.Rules.{rules}
 use Rattle.pedr_writer.proofs.put_tail.Goals as goal
 
--- the array's length, by its type
-shots : (s : goal.After-slice_known-4-1) → length s.args.encoders ≡ 20
-shots s = search rules
-
 pub returns : goal.returns
 returns c =
-    let s = c in
-    let x = s.args.uninterpreted.now in
-    puts_join (tail_parts s.args.encoders x) tail_columns 536 776 refl (tail_fits s.args.encoders x (shots s) s.requires)
-    (front_copied x _ _ 536 84 (omega (arith, s.requires)) c.copy_part.ensures
+    let x = c.args.uninterpreted.now in
+    let shots : length c.args.encoders ≡ 20 = search rules in
+    puts_join (tail_parts c.args.encoders x) tail_columns 536 776 refl (tail_fits c.args.encoders x shots c.requires)
+    (front_copied x _ _ 536 84 (omega (arith, c.requires)) c.copy_part.ensures
     ▸ run_stored 1 _ _ _ _ _ c.encoder_bytes-bytes.ensures c.write_u8s.ensures
-    ▸ rest_copied x _ _ 640 84 136 (sym s.requires) c.copy_part-2.ensures
+    ▸ rest_copied x _ _ 640 84 136 (sym c.requires) c.copy_part-2.ensures
     ▸ stop)
