@@ -3,40 +3,39 @@ use mathlib.Core.Path.{sym, ◌∙◌}
 use borrow.Author.Tests.{ne_eqb}
 use Rattle.pedr_layout.proofs.Frames.{at_1, at_2, at_3, at_4, at_5, at_6, at_rest}
 use Rattle.pedr_block_c.specs.Numbers.{block_of_numbers}
-use borrow.Author.Rules.{rules}
 use Rattle.pedr_block_c.proofs.block_of.Goals as goal
 
 pub returns-in-1 : goal.returns-in-1
 unfolding block_of_numbers
-returns-in-1 c = sym (at_1 _ _ _ _ _ _ _ _ c.in-1.keys1)
+returns-in-1 c = sym (at_1 _ _ _ _ _ _ _ _ c.in-1.is)
 
 pub returns-in-2 : goal.returns-in-2
 unfolding block_of_numbers
-returns-in-2 c = sym (at_2 _ _ _ _ _ _ _ _ c.in-2.keys2)
+returns-in-2 c = sym (at_2 _ _ _ _ _ _ _ _ c.in-2.is)
 
 pub returns-in-3 : goal.returns-in-3
 unfolding block_of_numbers
-returns-in-3 c = sym (at_3 _ _ _ _ _ _ _ _ c.in-3.keys3)
+returns-in-3 c = sym (at_3 _ _ _ _ _ _ _ _ c.in-3.is)
 
 pub returns-in-4 : goal.returns-in-4
 unfolding block_of_numbers
-returns-in-4 c = sym (at_4 _ _ _ _ _ _ _ _ c.in-4.keys4)
+returns-in-4 c = sym (at_4 _ _ _ _ _ _ _ _ c.in-4.is)
 
 pub returns-in-5 : goal.returns-in-5
 unfolding block_of_numbers
-returns-in-5 c = sym (at_5 _ _ _ _ _ _ _ _ c.in-5.keys5)
+returns-in-5 c = sym (at_5 _ _ _ _ _ _ _ _ c.in-5.is)
 
 pub returns-in-6 : goal.returns-in-6
 unfolding block_of_numbers
-returns-in-6 c = sym (at_6 _ _ _ _ _ _ _ _ c.in-6.keys6)
+returns-in-6 c = sym (at_6 _ _ _ _ _ _ _ _ c.in-6.is)
 
 pub returns-in-7 : goal.returns-in-7
 unfolding block_of_numbers
-returns-in-7 c = sym (simp c.in-7.keys7)
+returns-in-7 c = sym (simp c.in-7.is)
 
 pub returns-in_default : goal.returns-in_default
 unfolding block_of_numbers
 returns-in_default c =
-    let r = c.in_default.rest in
+    let r = c.in_default.in_default-own.rest in
     c.other_block.ensures
     ∙ sym (at_rest _ _ _ _ _ _ _ _ r.0.0.0.0.0.0.1 r.0.0.0.0.0.1 r.0.0.0.0.1 r.0.0.0.1 r.0.0.1 r.0.1 ∙ simp (ne_eqb _ 7 r.1))

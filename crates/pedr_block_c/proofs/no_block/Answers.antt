@@ -1,6 +1,5 @@
 -- Frame by frame.
 use Rattle.pedr_block_c.specs.Numbers.{no_block}
-use borrow.Author.Rules.{rules}
 use Rattle.pedr_block_c.proofs.no_block.Goals as goal
 
 pub returns : goal.returns
