@@ -15,34 +15,34 @@ same_block b d r x q t = subst (λ (z : Block). TypedBlock z r x) (sym q) t
 pub returns-in-Frame1 : goal.returns-in-Frame1
 returns-in-Frame1 c =
     let a = c.args in
-    same_block a.block _ a.runs a.carried.now c.block-1.given.1 c.type_frame_1.ensures
+    same_block a.block _ a.runs a.carried.now c.in-Frame1.is c.type_frame_1.ensures
 
 pub returns-in-Frame2 : goal.returns-in-Frame2
 returns-in-Frame2 c =
     let a = c.args in
-    same_block a.block _ a.runs a.carried.now c.block-in-Frame2-1.given.1 c.type_frame_2.ensures
+    same_block a.block _ a.runs a.carried.now c.in-Frame2.is c.type_frame_2.ensures
 
 pub returns-in-Frame3 : goal.returns-in-Frame3
 returns-in-Frame3 c =
     let a = c.args in
-    same_block a.block _ a.runs a.carried.now c.block-in-Frame3-1.given.1 c.type_frame_3.ensures
+    same_block a.block _ a.runs a.carried.now c.in-Frame3.is c.type_frame_3.ensures
 
 pub returns-in-Frame4 : goal.returns-in-Frame4
 returns-in-Frame4 c =
     let a = c.args in
-    same_block a.block _ a.runs a.carried.now c.enum_told-1.given.1 c.type_frame_4.ensures
+    same_block a.block _ a.runs a.carried.now c.in-Frame4.is c.type_frame_4.ensures
 
 pub returns-in-Frame5 : goal.returns-in-Frame5
 returns-in-Frame5 c =
     let a = c.args in
-    same_block a.block _ a.runs a.carried.now c.block-in-Frame5-1.given.1 c.type_frame_5.ensures
+    same_block a.block _ a.runs a.carried.now c.in-Frame5.is c.type_frame_5.ensures
 
 pub returns-in-Frame6 : goal.returns-in-Frame6
 returns-in-Frame6 c =
     let a = c.args in
-    same_block a.block _ a.runs a.carried.now c.block-in-Frame6-1.given.1 c.type_frame_6.ensures
+    same_block a.block _ a.runs a.carried.now c.in-Frame6.is c.type_frame_6.ensures
 
 pub returns-in-Frame7 : goal.returns-in-Frame7
 returns-in-Frame7 c =
     let a = c.args in
-    same_block a.block _ a.runs a.carried.now c.block-in-Frame7-1.given.1 c.type_frame_7.ensures
+    same_block a.block _ a.runs a.carried.now c.in-Frame7.is c.type_frame_7.ensures

@@ -18,10 +18,6 @@ there_is s k f e =
     let w = within_true 1 20 k (passed (within 1 20 k) 15 0 q.0).0 in
     (w.0, w.1, q.1)
 
--- the record isn't refused
-accepted : (c : goal.After-read_shot_flags) → record_refusal c.args.bytes.now ≡ 0
-accepted c = sym c.record_refusal-n.ensures ∙ c.if-n-ne0.false
-
 pub returns-then-n-ne0 : goal.returns-then-n-ne0
 unfolding shot_refusal
 returns-then-n-ne0 c =
@@ -29,20 +25,20 @@ returns-then-n-ne0 c =
     say_refused _ _ (shot_of a.bytes.now a.shot) (then_fail _ _ _ c.record_refusal-n.ensures c.if-n-ne0.true) c.if-n-ne0.true
 
 pub read_fields-requires : goal.read_fields-requires
-read_fields-requires c = there_is _ _ _ (ap flags_said (sym c.flags-1.given.1) ∙ c.read_shot_flags.ensures)
+read_fields-requires c = there_is _ _ _ c.in-Accepted.ensures
 
 pub returns-in-Refused : goal.returns-in-Refused
 unfolding shot_refusal
 returns-in-Refused c =
-    let b = c in
-    let a = b.args in
-    let q = refusal_said _ _ (flags_of a.bytes.now a.shot) (ap flags_said (sym c.n-1.given.1) ∙ b.read_shot_flags.ensures) in
-    say_refused _ _ (shot_of a.bytes.now a.shot) (then_pass _ _ _ (accepted b) q.0) (λ e. q.1 (sym q.0 ∙ e))
+    let a = c.args in
+    let z : record_refusal a.bytes.now ≡ 0 = sym c.record_refusal-n.ensures ∙ c.if-n-ne0.false in
+    let q = refusal_said _ _ (flags_of a.bytes.now a.shot) c.in-Refused.ensures in
+    say_refused _ _ (shot_of a.bytes.now a.shot) (then_pass _ _ _ z q.0) (λ e. q.1 (sym q.0 ∙ e))
 
 pub returns-in-Accepted : goal.returns-in-Accepted
 unfolding shot_refusal
 returns-in-Accepted c =
-    let b = c in
-    let a = b.args in
-    let q = answer_said _ (flags_of a.bytes.now a.shot) _ (ap flags_said (sym c.flags-1.given.1) ∙ b.read_shot_flags.ensures) in
-    say_answered _ (shot_of a.bytes.now a.shot) _ (sym (then_pass _ _ 0 (accepted b) (sym q.0))) c.read_fields.ensures
+    let a = c.args in
+    let z : record_refusal a.bytes.now ≡ 0 = sym c.record_refusal-n.ensures ∙ c.if-n-ne0.false in
+    let q = answer_said _ (flags_of a.bytes.now a.shot) _ c.in-Accepted.ensures in
+    say_answered _ (shot_of a.bytes.now a.shot) _ (sym (then_pass _ _ 0 z (sym q.0))) c.read_fields.ensures
