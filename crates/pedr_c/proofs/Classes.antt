@@ -1,14 +1,11 @@
 -- A class's number, and the class of that number.
-use Prim.Native.Nat.{ℕ, zero, suc}
+use Prim.Native.Nat.{ℕ}
 use mathlib.Core.Path.{◌≡◌, refl, sym, ap, ◌∙◌}
 use mathlib.Core.List.{List, [], ◌∷◌, map}
-use native.Mathlib.Omega.{arith}
-use borrow.Author.Tests.{ne_eqb}
 use Rattle.octets.specs.Table.{nats_at}
 use Rattle.octets.proofs.Fill.{table_same, map_table}
 use Rattle.layout.specs.Column.{item, values}
 use Rattle.pedr_layout.specs.Layout.{class}
-use Rattle.pedr_flags.specs.Class.{class_of, class_number}
 use Rattle.pedr_flags_writer.proofs.Codes.{class_whole}
 use Rattle.pedr_arrays.specs.Arrays.{shot_class, classes_of, shot_class_number}
 

@@ -1,6 +1,5 @@
 -- Array by array; the shots by their own.
 use Rattle.pedr_c.specs.Back.{arrays_of_numbers}
-use borrow.Author.Rules.{rules}
 use Rattle.pedr_c.proofs.arrays_of.Goals as goal
 
 pub returns : goal.returns

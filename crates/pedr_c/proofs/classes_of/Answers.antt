@@ -1,20 +1,14 @@
 -- One law of loops that fill a list, at the class of each number.
-use Prim.Native.Nat.{ℕ, ◌-◌}
+use Prim.Native.Nat.{ℕ}
 use mathlib.Core.Path.{◌≡◌, refl, sym, ap, ◌∙◌}
-use mathlib.Core.List.{List}
 use native.Mathlib.Omega.{arith}
-use lib.ListN.{length, get_or}
+use lib.ListN.{length}
 use Rattle.octets.specs.Table.{table}
-use Rattle.octets.proofs.Fill.{Filled, fill_more, fill_done, table_map}
+use Rattle.octets.proofs.Fill.{fill_more, fill_done, table_map}
 use Rattle.pedr_arrays.specs.Arrays.{shot_class}
-use Rattle.pedr_arrays.specs.declared.ShotClass.{ShotClass}
 use borrow.Author.Rules.{rules}
 use Rattle.pedr_c.proofs.classes_of.Invariants.{class_at}
 use Rattle.pedr_c.proofs.classes_of.Goals as goal
-
--- the array's length, by its type
-shots : (s : goal.Start) → length s.args.numbers ≡ 20
-shots s = search rules
 
 pub loop-k-init : goal.loop-k-init
 loop-k-init c = (omega arith, refl)
@@ -45,8 +39,9 @@ loop-k-preserved c =
 
 pub returns : goal.returns
 returns c =
+    let n : length c.args.numbers ≡ 20 = search rules in
     let l = c.loop-k in
     let numbers = c.args.numbers in
     let f = class_at numbers in
-    fill_done f _ l.classes l.k c.loop-k-test.false l.invariant ∙ ap (λ (n : ℕ). table n f) (sym (shots (goal.at.returns c).Start))
+    fill_done f _ l.classes l.k c.loop-k-test.false l.invariant ∙ ap (λ (n : ℕ). table n f) (sym n)
     ∙ table_map shot_class numbers 0

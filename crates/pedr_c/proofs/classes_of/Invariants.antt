@@ -1,14 +1,10 @@
 -- One law of loops that fill a list, at the class of each number.
 use Prim.Native.Nat.{ℕ, ◌-◌}
-use mathlib.Core.Path.{◌≡◌, refl, sym, ap, ◌∙◌}
 use mathlib.Core.List.{List}
-use native.Mathlib.Omega.{arith}
-use lib.ListN.{length, get_or}
-use Rattle.octets.specs.Table.{table}
-use Rattle.octets.proofs.Fill.{Filled, fill_more, fill_done, table_map}
+use lib.ListN.{get_or}
+use Rattle.octets.proofs.Fill.{Filled}
 use Rattle.pedr_arrays.specs.Arrays.{shot_class}
 use Rattle.pedr_arrays.specs.declared.ShotClass.{ShotClass}
-use borrow.Author.Rules.{rules}
 use Rattle.pedr_c.proofs.classes_of.Given as goal
 
 abbrev pub class_at : List ℕ → ℕ → ShotClass

@@ -1,6 +1,5 @@
 -- Group by group.
 use Rattle.pedr_c.specs.Refused.{no_fields}
-use borrow.Author.Rules.{rules}
 use Rattle.pedr_c.proofs.no_fields.Goals as goal
 
 pub returns : goal.returns

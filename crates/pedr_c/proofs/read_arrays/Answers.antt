@@ -4,7 +4,6 @@ use mathlib.Core.List.{map}
 use Rattle.pedr_arrays.specs.Arrays.{shot_class_number, shot_arrays_of, arrays_of}
 use Rattle.pedr_arrays.specs.declared.RecordArrays.{RecordArrays}
 use Rattle.pedr_c.specs.Numbers.{array_numbers}
-use borrow.Author.Rules.{rules}
 use Rattle.pedr_c.proofs.read_arrays.Goals as goal
 
 pub shot_numbers-requires : goal.shot_numbers-requires

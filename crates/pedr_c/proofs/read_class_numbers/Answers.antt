@@ -1,6 +1,5 @@
 -- The numbers of the classes are their column.
 use mathlib.Core.Path.{◌∙◌}
-use borrow.Author.Rules.{rules}
 use Rattle.pedr_c.proofs.Classes.{column_numbers}
 use Rattle.pedr_c.proofs.read_class_numbers.Goals as goal
 

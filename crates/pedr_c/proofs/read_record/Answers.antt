@@ -11,7 +11,6 @@ use Rattle.pedr_block.specs.Block.{block_of}
 use Rattle.pedr_block_runs.specs.Runs.{runs_of, no_runs}
 use Rattle.pedr_block_runs.specs.Carried.{carried_of, no_carried}
 use Rattle.pedr_c.specs.Numbers.{fields_in, block_in, array_numbers}
-use borrow.Author.Rules.{rules}
 use Rattle.pedr_c.proofs.Refused.{refused_zeros}
 use Rattle.pedr_c.proofs.read_record.Goals as goal
 

@@ -1,6 +1,5 @@
 -- Part by part.
 use Rattle.pedr_c.specs.Refused.{refused_record}
-use borrow.Author.Rules.{rules}
 use Rattle.pedr_c.proofs.refused_record.Goals as goal
 
 pub returns : goal.returns

@@ -1,6 +1,5 @@
 -- Column by column; the classes by their numbers.
 use Rattle.pedr_c.specs.Back.{shots_of_numbers}
-use borrow.Author.Rules.{rules}
 use Rattle.pedr_c.proofs.shots_of.Goals as goal
 
 pub returns : goal.returns
