@@ -17,17 +17,14 @@ use Rattle.pedr_laws.proofs.frame_read.Goals as goal
 
 pub returns-in_default : goal.returns-in_default
 returns-in_default c =
-    let r = c in
-    let s : List ℕ = r.args.bytes.now in
-    let q = refusal_said {A = RecordFields × Block} _ _ (fields_of s, block_of s) (sym (ap record_said c.enum_told-1.given.1) ∙ r.read_record-read.ensures.0) in
+    let s : List ℕ = c.args.bytes.now in
+    let q = refusal_said {A = RecordFields × Block} _ _ (fields_of s, block_of s) (sym (ap record_said c.in_default.is) ∙ c.read_record-read.ensures.0) in
     after_refused _ _ (value s frame_index) 0 q.0 (λ z. q.1 (sym q.0 ∙ z))
 
 pub returns : goal.returns
 returns c =
-    let k = c in
-    let r = k.before.before in
-    let s : List ℕ = r.args.bytes.now in
-    let q = answer_said {A = RecordFields × Block} _ (fields_of s, block_of s) _ (sym (ap record_said k.answer-1.given.1) ∙ r.read_record-read.ensures.0) in
+    let s : List ℕ = c.args.bytes.now in
+    let q = answer_said {A = RecordFields × Block} _ (fields_of s, block_of s) _ (sym (ap record_said c.in-Accepted.is) ∙ c.read_record-read.ensures.0) in
     let i = (accepted s q.0).index in
     after_done _ (value s frame_index) 0 _ q.0
     (c.frame_number.ensures ∙ ap (λ (x : RecordFields × Block). frame_number x.1) q.1 ∙ case_is_index s i.0 i.1)
