@@ -1,5 +1,4 @@
 -- Field by field; the class by its number.
-use borrow.Author.Rules.{rules}
 use Rattle.pedr_shot_c.proofs.one_shot.Goals as goal
 
 pub returns : goal.returns
