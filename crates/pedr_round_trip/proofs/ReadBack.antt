@@ -80,10 +80,10 @@ sizes_of a t =
     }
 
 -- a class that is given by its name, if it has one, is that of its number
-class_of : (c : Class) → is_proper c ≡ true → class_of (class_number c) ≡ c
-class_of NoTrigger e = refl
-class_of ProbableGround e = refl
-class_of (Unassigned n) e =
+class_of_lem : (c : Class) → is_proper c ≡ true → class_of (class_number c) ≡ c
+class_of_lem NoTrigger e = refl
+class_of_lem ProbableGround e = refl
+class_of_lem (Unassigned n) e =
     let l : 1 < n = ltb-true 1 n e in
     simp (ne_eqb n 0 (λ z. omega arith), ne_eqb n 1 (λ z. omega arith))
 
@@ -219,7 +219,7 @@ module _ (f : RecordFields) (b : Block) (a : RecordArrays) (r : BlockRuns) (c x 
       several unsigned 384 2 20 (map shot_class_number cs) (omega arith) (omega arith) (length-map cs shot_class_number ∙ l) u.shots.class.1 (col 23) in
       table_below 20 (λ k. shot_class (item s columns.class k)) (λ k. get_or cs k d)
       (λ k h. ap shot_class (item_is 384 2 k (map shot_class_number cs) numbers h ∙ get_or-map shot_class_number cs k d)
-      ∙ ap (λ (c : Class). record { class = c }) (class_of (get_or cs k d).class (each_at is_proper_shot cs k d m.classes (rw l h))))
+      ∙ ap (λ (c : Class). record { class = c }) (class_of_lem (get_or cs k d).class (each_at is_proper_shot cs k d m.classes (rw l h))))
       ∙ ap (λ (n : ℕ). table n (λ k. get_or cs k d)) (sym l) ∙ table_self cs d
 
   encoders_are : encoders_of s ≡ a.shots.encoder

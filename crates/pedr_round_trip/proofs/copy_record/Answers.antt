@@ -23,7 +23,7 @@ returns-in_default c =
     let a = c.args in
     let s : List ℕ = a.bytes.now in
     let p = c.read_record-read.ensures in
-    let q = refusal_said _ _ (fields_of s, block_of s) (sym (ap record_said c.enum_told-1.given.1) ∙ p.0) in
+    let q = refusal_said _ _ (fields_of s, block_of s) (sym (ap record_said c.in_default.is) ∙ p.0) in
     let r = c.refusal_number.ensures ∙ ap refusal_in p.0 ∙ number_say _ (fields_of s, block_of s) in
     let e = copy_refused s a.out.now _ r (λ z. q.1 (sym r ∙ z)) in
     (say_refused _ _ tt e (λ z. q.1 (sym r ∙ z)), after_refused _ _ s a.out.now e (λ z. q.1 (sym r ∙ z)))
@@ -35,7 +35,7 @@ returns c =
     let s : List ℕ = a.bytes.now in
     let out : List ℕ = a.out.now in
     let p = k.read_record-read.ensures in
-    let q = answer_said _ (fields_of s, block_of s) _ (sym (ap record_said k.answer-1.given.1) ∙ p.0) in
+    let q = answer_said _ (fields_of s, block_of s) _ (sym (ap record_said k.in-Accepted.is) ∙ p.0) in
     let ea = p.1 ∙ sym (after_done _ (arrays_of s) no_arrays (arrays_of s) q.0 refl) in
     let er = p.2 ∙ sym (after_done _ (runs_of s) no_runs (runs_of s) q.0 refl) in
     let ec = p.3 ∙ sym (after_done _ (carried_of s) no_carried (carried_of s) q.0 refl) in

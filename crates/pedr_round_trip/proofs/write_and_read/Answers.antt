@@ -22,7 +22,7 @@ returns-in-Refused c =
     let k = c in
     let a = k.args in
     let w = k.write_record-written.ensures in
-    let q = refusal_said _ _ tt (sym (ap written_said c.written-1.given.1) ∙ w.0) in (
+    let q = refusal_said _ _ tt (sym (ap written_said c.in-Refused.is) ∙ w.0) in (
       say_refused _ _ (counted a.fields, a.block) q.0 (λ z. q.1 (sym q.0 ∙ z)),
       c.no_arrays.ensures ∙ after_refused _ _ a.arrays no_arrays q.0 (λ z. q.1 (sym q.0 ∙ z)),
       c.no_runs.ensures ∙ after_refused _ _ (kept_runs a.block a.runs) no_runs q.0 (λ z. q.1 (sym q.0 ∙ z)),
@@ -34,11 +34,11 @@ returns-in-Refused c =
 pub returns : goal.returns
 returns c =
     let k = c in
-    let a = k.before.before.before.before.before.before.before.before.args in
+    let a = k.args in
     let y : List ℕ = a.carried.now in
     let x : List ℕ = a.uninterpreted.now in
     let w = k.write_record-written.ensures in
-    let q = answer_said _ tt _ (sym (ap written_said c.enum_told-1.given.1) ∙ w.0) in
+    let q = answer_said _ tt _ (sym (ap written_said c.in_default.is) ∙ w.0) in
     let s : List ℕ = record_of a.fields a.block a.arrays a.runs y x in
     let e = w.1 ∙ sym (after_done _ s a.out.now s q.0 refl) in
     let t =

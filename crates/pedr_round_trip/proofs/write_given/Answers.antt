@@ -21,9 +21,9 @@ slice_bounds-write_record-end c =
 pub returns : goal.returns
 returns c =
     let k = c in
-    let a = k.before.before.args in
+    let a = k.args in
     let e : k.carried_count-n.result - 0 ≡ carried_count a.block = omega (arith, k.carried_count-n.ensures) in
     let w = c.write_record.ensures in (
-      w.0 ∙ ap (λ (n : ℕ). write_due a.fields a.block a.arrays (take n a.t5) a.t6 a.out.now) e,
-      w.1 ∙ ap (λ (n : ℕ). write_bytes a.fields a.block a.arrays a.runs (take n a.t5) a.t6 a.out.now) e,
+      w.0 ∙ ap (λ (n : ℕ). write_due a.fields a.block a.arrays (take n a.carried) a.uninterpreted a.out.now) e,
+      w.1 ∙ ap (λ (n : ℕ). write_bytes a.fields a.block a.arrays a.runs (take n a.carried) a.uninterpreted a.out.now) e,
     )
