@@ -16,7 +16,7 @@ use Rattle.reorder_session.specs.declared.Session.{Session}
 use Rattle.reorder_session.specs.Session.{slot, with_window, single}
 use Rattle.reorder_rules.specs.Outcome.{Outcome, outcome}
 use Rattle.reorder_rules.specs.Turn.{Turn, packet, missing, waiting, bytes_at}
-use Rattle.reorder_session.specs.Calls.{turn, turned, shown, turns, turned_all, shown_all, serve_refusal, drain_refusal, serve_of, drain_of, pass_refusal, pass_of}
+use Rattle.reorder_session.specs.Calls.{turn, turned, shown, turns, turned_all, shown_all, serve_refusal, drain_refusal, pass_refusal}
 use Rattle.reorder_rules.proofs.Ready.{ServeReady, serve_ready, DrainReady, drain_ready}
 use Rattle.reorder_laws.specs.Serves.{answer_at}
 use Rattle.reorder_laws.proofs.Pieces.{piece_same, slot_length, shown_packet}

@@ -1,5 +1,5 @@
 -- Calls that keep their promises are steps of the lists of demand 3, so a history of them is a run.
-use Prim.Native.Nat.{ℕ, ◌+◌}
+use Prim.Native.Nat.{ℕ}
 use mathlib.Core.Path.{◌≡◌, refl, ap, ◌∙◌}
 use mathlib.Core.List.{List, [], ◌∷◌, ◌++◌}
 use Rattle.octets.specs.Refusal.{Said}

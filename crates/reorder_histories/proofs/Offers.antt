@@ -1,7 +1,7 @@
 -- What two linked reorder buffers do with the same offer.
-use Prim.Native.Nat.{ℕ, ◌-◌, ◌≤◌, ◌<◌}
+use Prim.Native.Nat.{ℕ, ◌≤◌, ◌<◌}
 use mathlib.Core.Path.{◌≡◌, refl, sym, ap, ◌∙◌, subst}
-use mathlib.Core.Bool.{false, true≢false}
+use mathlib.Core.Bool.{true≢false}
 use mathlib.Core.List.{List, ◌++◌}
 use mathlib.Core.Logic.{◌⊎◌, inl, inr}
 use native.Mathlib.Decide.{dec_lt}
@@ -18,7 +18,7 @@ use Rattle.position.specs.Position.{position, published_tolerance}
 use Rattle.window.specs.Window.{holding}
 use Rattle.reorder_session.specs.Session.{with_window, slot_start, single}
 use Rattle.reorder_rules.specs.Outcome.{outcome}
-use Rattle.reorder_session.specs.Calls.{position_of, offer_due, offer_of}
+use Rattle.reorder_session.specs.Calls.{position_of, offer_due}
 use Rattle.reorder_rules.proofs.Said.{said_is}
 use Rattle.reorder_rules.proofs.Free.{offered_free}
 use Rattle.reorder_rules.proofs.Taken.{taken_offer}

@@ -20,7 +20,7 @@ use Rattle.reorder_session.specs.Session.{slot}
 use Rattle.reorder_offer.specs.Opening.{opened, open_due, open_of}
 use Rattle.reorder_rules.proofs.Said.{left}
 use Rattle.reorder_rules.specs.Turn.{Turn, packet, missing, waiting}
-use Rattle.reorder_session.specs.Calls.{turn, turned, shown, serve_refusal, serve_of}
+use Rattle.reorder_session.specs.Calls.{turn, turned, shown, serve_refusal}
 use Rattle.reorder_turn.proofs.Turns.{Shows, shows_packet, shows_missing, shows_waiting, shows}
 use Rattle.reorder_session.proofs.Whole.{Whole, whole}
 use Rattle.reorder_offer.proofs.Opening.{accepted_opening}

@@ -15,7 +15,7 @@ use Rattle.window.specs.Window.{held_at, skipped}
 use Rattle.window.proofs.Held.{held_above, freed_held, skipped_held}
 use Rattle.reorder_session.specs.declared.Session.{Session}
 use Rattle.reorder_session.specs.Session.{with_window, single}
-use Rattle.reorder_session.specs.Calls.{offer_due, offer_of, turn, turned, shown, serve_refusal, serve_of, pass_refusal, pass_of}
+use Rattle.reorder_session.specs.Calls.{offer_due, turn, turned, shown, serve_refusal, serve_of, pass_refusal, pass_of}
 use Rattle.reorder_rules.proofs.Said.{said_is, left}
 use Rattle.reorder_rules.specs.Turn.{Turn, packet, missing, waiting}
 use Rattle.reorder_turn.proofs.Turns.{Shows, shows_packet, shows_missing, shows_waiting, shows}

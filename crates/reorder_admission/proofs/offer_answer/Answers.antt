@@ -18,7 +18,6 @@ use Rattle.reorder_session.specs.Session.{broken, single}
 use Rattle.reorder_session.specs.Calls.{position_of}
 use Rattle.reorder_session.proofs.Whole.{fit, unfit}
 use Rattle.reorder_admission.proofs.Handed.{handed_on}
-use borrow.Author.Rules.{rules}
 use Rattle.reorder_admission.proofs.offer_answer.Goals as goal
 
 -- the session isn't broken, and the store has its size: the ladder goes on with the reader's number

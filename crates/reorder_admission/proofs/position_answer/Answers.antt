@@ -1,5 +1,4 @@
 -- Each outcome of the tests, by `Admitting`.
-use Prim.Native.Nat.{◌-◌}
 use mathlib.Core.Path.{◌≡◌, sym, ap, ◌∙◌}
 use mathlib.Core.Bool.{false}
 use lib.IntN.{ℤ, pos, nat_abs}

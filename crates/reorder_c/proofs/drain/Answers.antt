@@ -19,7 +19,6 @@ use Rattle.reorder_session.specs.Calls.{turn, Drains}
 use Rattle.reorder_turn.specs.Described.{described_all}
 use Rattle.reorder_serve.proofs.Waits.{drain_waits}
 use Rattle.reorder_c_answers.proofs.Told.{drain_told}
-use borrow.Author.Rules.{rules}
 use Rattle.reorder_c.proofs.drain.Goals as goal
 
 only_waiting : (t : Turn) → is_waiting t ≡ true → t ≡ waiting

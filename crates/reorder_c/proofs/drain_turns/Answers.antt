@@ -14,7 +14,6 @@ use Rattle.reorder_c_answers.specs.Listed.{listed}
 use Rattle.reorder_c_answers.specs.Answers.{drained_count, tabled, turns_said, Tells}
 use Rattle.reorder_c_answers.proofs.Told.{numbers_stay, numbers_listed, drain_told}
 use Rattle.reorder_c.proofs.Window.{drain_windowed, with_its_window}
-use borrow.Author.Rules.{rules}
 use Rattle.reorder_c.proofs.drain_turns.Goals as goal
 use Rattle.reorder_c.proofs.drain_turns.Goals.{After-drained_count-count}
 

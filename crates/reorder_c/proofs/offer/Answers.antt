@@ -2,7 +2,6 @@
 use Rattle.reorder_session.specs.Session.{single}
 use Rattle.reorder_rules.proofs.Numbered.{offer_numbered}
 use Rattle.reorder_c_answers.proofs.Told.{held_told}
-use borrow.Author.Rules.{rules}
 use Rattle.reorder_c.proofs.offer.Goals as goal
 
 pub returns : goal.returns

@@ -1,7 +1,6 @@
 -- What `open_or` promises, of the numbers.
 use Rattle.reorder_offer.proofs.Opening.{open_numbered}
 use Rattle.reorder_c_answers.proofs.Told.{held_told}
-use borrow.Author.Rules.{rules}
 use Rattle.reorder_c.proofs.open.Goals as goal
 
 pub returns : goal.returns

@@ -5,7 +5,6 @@ use Rattle.reorder_rules.proofs.Said.{comes_by}
 use Rattle.reorder_rules.proofs.Numbered.{pass_numbered}
 use Rattle.reorder_c_answers.proofs.Told.{passed_told}
 use Rattle.reorder_c.proofs.Window.{pass_windowed, with_its_window}
-use borrow.Author.Rules.{rules}
 use Rattle.reorder_c.proofs.pass.Goals as goal
 
 pub returns : goal.returns

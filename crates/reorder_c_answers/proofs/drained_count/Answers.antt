@@ -3,7 +3,6 @@ use mathlib.Core.Path.{sym, ap}
 use Rattle.reorder_serve.specs.declared.DrainAnswer.{DrainAnswer}
 use Rattle.reorder_serve.specs.Report.{drain_said}
 use Rattle.reorder_c_answers.specs.Answers.{drained_count}
-use borrow.Author.Rules.{rules}
 use Rattle.reorder_c_answers.proofs.drained_count.Goals as goal
 
 pub returns-in-Refused : goal.returns-in-Refused

@@ -3,7 +3,6 @@ use mathlib.Core.Path.{sym, ap}
 use Rattle.reorder_admission.specs.declared.OfferAnswer.{OfferAnswer}
 use Rattle.reorder_admission.specs.Answer.{offer_said}
 use Rattle.reorder_c_answers.specs.Answers.{held_answer}
-use borrow.Author.Rules.{rules}
 use Rattle.reorder_c_answers.proofs.held_answer.Goals as goal
 
 pub returns-in-Refused : goal.returns-in-Refused

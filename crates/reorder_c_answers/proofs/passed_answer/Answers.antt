@@ -3,7 +3,6 @@ use mathlib.Core.Path.{sym, ap}
 use Rattle.reorder_pass.specs.declared.PassAnswer.{PassAnswer}
 use Rattle.reorder_pass.specs.Answer.{pass_said}
 use Rattle.reorder_c_answers.specs.Answers.{passed_answer}
-use borrow.Author.Rules.{rules}
 use Rattle.reorder_c_answers.proofs.passed_answer.Goals as goal
 
 pub returns-in-Refused : goal.returns-in-Refused

@@ -1,11 +1,6 @@
 -- Two numbers a turn; a store is a put of one number, and all together are the 64.
 use Prim.Native.Nat.{◌-◌}
-use mathlib.Core.Path.{◌≡◌, ◌∙◌}
-use native.Mathlib.Omega.{arith}
-use lib.ListN.{length, length-set}
-use borrow.Author.Rules.{rules}
-use Rattle.octets.specs.Bytes.{put}
-use Rattle.reorder_c_answers.proofs.Listed.{Stored, stored_none, stored_more, stored_length, stored_all}
+use Rattle.reorder_c_answers.proofs.Listed.{Stored}
 use Rattle.reorder_c_answers.proofs.put_descriptions.Given as goal
 
 abbrev pub invariant-loop-i : goal.invariant-loop-i

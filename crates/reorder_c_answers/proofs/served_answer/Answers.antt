@@ -8,7 +8,6 @@ use Rattle.reorder_turn.specs.Answer.{serve_said}
 use Rattle.reorder_turn.specs.Described.{description_of}
 use Rattle.reorder_c_answers.specs.declared.Answer.{Answer}
 use Rattle.reorder_c_answers.specs.Answers.{served_answer}
-use borrow.Author.Rules.{rules}
 use Rattle.reorder_c_answers.proofs.served_answer.Goals as goal
 
 abbrev told : Description → Answer

@@ -1,5 +1,4 @@
 -- The window of all zeros, and zeros.
-use borrow.Author.Rules.{rules}
 use Rattle.reorder_session.specs.Session.{with_window}
 use Rattle.reorder_offer.specs.Opening.{no_session}
 use Rattle.reorder_offer.proofs.no_session.Goals as goal

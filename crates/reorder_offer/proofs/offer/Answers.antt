@@ -6,7 +6,6 @@ use Rattle.reorder_session.specs.Session.{with_window, single}
 use Rattle.packet_check.proofs.Accept.{accepted}
 use Rattle.reorder_rules.proofs.Taken.{taken_offer}
 use Rattle.reorder_rules.proofs.Said.{stays, leaves, comes_by}
-use borrow.Author.Rules.{rules}
 use Rattle.reorder_offer.proofs.offer.Goals as goal
 
 pub returns-in_default : goal.returns-in_default

@@ -3,7 +3,6 @@ use mathlib.Core.Path.{subst}
 use Rattle.reorder_session.specs.declared.Session.{Session}
 use Rattle.reorder_admission.specs.Answer.{offer_said}
 use Rattle.reorder_offer.specs.Opening.{Opens}
-use borrow.Author.Rules.{rules}
 use Rattle.reorder_offer.proofs.open.Goals as goal
 
 pub returns : goal.returns

@@ -15,7 +15,6 @@ use Rattle.reorder_offer.specs.Opening.{opened, open_refusal, open_due, open_of}
 use Rattle.reorder_rules.proofs.Said.{stays, leaves}
 use Rattle.reorder_session.specs.Session.{with_window}
 use Rattle.reorder_admission.proofs.Handed.{handed_on}
-use borrow.Author.Rules.{rules}
 use Rattle.reorder_offer.proofs.open_or.Goals as goal
 
 -- threshold and store are in order: the ladder goes on with the reader's number

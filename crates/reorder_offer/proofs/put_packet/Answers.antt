@@ -5,7 +5,6 @@ use Prim.Native.Nat.{ℕ}
 use native.Mathlib.Omega.{arith}
 use lib.Seq.{take_all, length-take-le}
 use Rattle.octets.specs.Bytes.{put}
-use borrow.Author.Rules.{rules}
 use Rattle.reorder_offer.proofs.put_packet.Goals as goal
 
 pub slice_bounds-write_into-end : goal.slice_bounds-write_into-end

@@ -1,6 +1,6 @@
 -- The rungs of the ladder, and past them next has moved on.
 use mathlib.Core.Path.{◌≡◌, refl, sym, ap, ◌∙◌}
-use mathlib.Core.Bool.{false, not}
+use mathlib.Core.Bool.{not}
 use mathlib.Core.List.{[]}
 use native.Mathlib.Omega.{arith}
 use borrow.Author.Tests.{eq-eqb, ne_eqb}
@@ -9,9 +9,8 @@ use Rattle.window.specs.Window.{skipped}
 use Rattle.window.proofs.Held.{has_32_bits}
 use Rattle.reorder_rules.specs.Pass.{pass_refusal, pass_of}
 use Rattle.reorder_rules.proofs.Said.{stays, leaves}
-use Rattle.reorder_session.specs.Session.{broken, with_window, single}
+use Rattle.reorder_session.specs.Session.{with_window, single}
 use Rattle.reorder_session.proofs.Whole.{whole, fit, unfit}
-use borrow.Author.Rules.{rules}
 use Rattle.reorder_pass.proofs.pass.Goals as goal
 
 pub returns-then-is_broken : goal.returns-then-is_broken

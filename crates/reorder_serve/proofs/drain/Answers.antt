@@ -1,5 +1,5 @@
 -- A refusal leaves everything; else it is the run, whose count is how far next has moved.
-use mathlib.Core.Path.{◌≡◌, refl, sym, ap, ◌∙◌}
+use mathlib.Core.Path.{refl, sym, ap, ◌∙◌}
 use mathlib.Core.List.{List}
 use native.Mathlib.Omega.{arith}
 use lib.ListN.{length}
@@ -12,10 +12,9 @@ use Rattle.reorder_rules.proofs.Turns.{counted_next}
 use Rattle.reorder_rules.proofs.Ready.{drain_ready}
 use Rattle.reorder_session.specs.declared.Session.{Session}
 use Rattle.reorder_session.specs.Session.{single}
-use Rattle.reorder_session.specs.Calls.{turns, drain_refusal, Drains}
+use Rattle.reorder_session.specs.Calls.{turns, Drains}
 use Rattle.reorder_session.proofs.Whole.{whole_fit}
 use Rattle.reorder_serve.proofs.Reading.{reported}
-use borrow.Author.Rules.{rules}
 use Rattle.reorder_serve.proofs.drain.Goals as goal
 
 pub returns-then-n-ne0 : goal.returns-then-n-ne0

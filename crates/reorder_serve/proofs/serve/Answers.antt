@@ -1,15 +1,14 @@
 -- A refusal leaves everything; else it is one step.
-use mathlib.Core.Path.{◌≡◌, refl, sym, ◌∙◌}
+use mathlib.Core.Path.{refl, sym, ◌∙◌}
 use native.Mathlib.Omega.{arith}
 use lib.ListN.{length}
 use Rattle.octets.proofs.Ladder.{say_refused, say_answered}
 use Rattle.reorder_rules.specs.Serve.{serve_of}
 use Rattle.reorder_rules.proofs.Said.{stays, leaves, comes_by}
-use Rattle.reorder_rules.proofs.Ready.{ServeReady, serve_ready}
+use Rattle.reorder_rules.proofs.Ready.{serve_ready}
 use Rattle.reorder_session.specs.Session.{single}
-use Rattle.reorder_session.specs.Calls.{turn, serve_refusal}
+use Rattle.reorder_session.specs.Calls.{turn}
 use Rattle.reorder_session.proofs.Whole.{whole_fit}
-use borrow.Author.Rules.{rules}
 use Rattle.reorder_serve.proofs.serve.Goals as goal
 
 pub returns-then-n-ne0 : goal.returns-then-n-ne0

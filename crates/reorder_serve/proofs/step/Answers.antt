@@ -1,20 +1,18 @@
 -- The turn by the two tests, and what it leaves.
 use Prim.Native.Nat.{ℕ, ◌+◌, ◌-◌, ◌*◌}
 use mathlib.Core.Path.{◌≡◌, refl, sym, ap, ◌∙◌}
-use mathlib.Core.Bool.{false}
 use mathlib.Core.List.{List}
 use native.Mathlib.Omega.{arith}
 use lib.ListN.{take, drop}
 use Rattle.octets.specs.Bytes.{part, put}
 use Rattle.octets.specs.Refusal.{answered}
-use Rattle.window.specs.Window.{held_at, freed, skipped}
+use Rattle.window.specs.Window.{freed, skipped}
 use Rattle.window.proofs.Held.{has_32_bits}
 use Rattle.reorder_rules.specs.Turn.{Turn}
 use Rattle.reorder_rules.proofs.Turns.{turn_packet, turn_missing, turn_waiting}
 use Rattle.reorder_session.specs.declared.Session.{Session}
 use Rattle.reorder_session.specs.Session.{with_window, slot_start, single}
 use Rattle.reorder_session.specs.Calls.{turn, turned, shown}
-use borrow.Author.Rules.{rules}
 use Rattle.reorder_serve.proofs.step.Goals as goal
 
 -- what serving once comes to, by its turn

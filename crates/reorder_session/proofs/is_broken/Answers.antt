@@ -11,7 +11,6 @@ use Rattle.packet_layout.specs.SumWord.{is_sum_word}
 use Rattle.reorder_rules.specs.Sizes.{is_threshold}
 use Rattle.reorder_session.specs.declared.Session.{Session}
 use Rattle.reorder_session.specs.Session.{past_end, broken}
-use borrow.Author.Rules.{rules}
 use Rattle.reorder_session.proofs.is_broken.Goals as goal
 
 -- the tests joined as the code joins them

@@ -5,7 +5,6 @@ use native.Mathlib.Omega.{arith}
 use borrow.Author.Tests.{lt-ltb, le-ltb}
 use Rattle.window.specs.Window.{some_held}
 use Rattle.reorder_session.specs.Session.{past_end}
-use borrow.Author.Rules.{rules}
 use Rattle.reorder_session.proofs.is_past_end.Goals as goal
 
 pub returns-then-window-gt-END_POSITION : goal.returns-then-window-gt-END_POSITION

@@ -1,6 +1,5 @@
 -- The promises of the three calls, one after another.
 use Rattle.reorder_steps.proofs.Steps.{short}
-use borrow.Author.Rules.{rules}
 use Rattle.reorder_steps.proofs.open_offer_drain.Goals as goal
 
 pub returns : goal.returns

@@ -3,7 +3,6 @@ use mathlib.Core.Path.{sym, ap}
 use Rattle.reorder_turn.specs.declared.ServeAnswer.{ServeAnswer}
 use Rattle.reorder_turn.specs.Answer.{serve_said}
 use Rattle.reorder_turn.specs.Described.{description_of}
-use borrow.Author.Rules.{rules}
 use Rattle.reorder_turn.proofs.describe.Goals as goal
 
 pub returns-in-Refused : goal.returns-in-Refused

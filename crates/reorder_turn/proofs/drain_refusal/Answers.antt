@@ -1,11 +1,9 @@
 -- Each return is one rung of the ladder.
-use mathlib.Core.Path.{◌≡◌, sym, ◌∙◌}
+use mathlib.Core.Path.{sym, ◌∙◌}
 use native.Mathlib.Omega.{arith}
 use Rattle.octets.proofs.Ladder.{then_pass, then_fail, rungs}
-use Rattle.reorder_session.specs.Session.{single}
 use Rattle.reorder_session.proofs.Whole.{fit, unfit}
 use Rattle.reorder_rules.specs.Serve.{drain_refusal}
-use borrow.Author.Rules.{rules}
 use Rattle.reorder_turn.proofs.drain_refusal.Goals as goal
 
 pub returns-then-is_broken : goal.returns-then-is_broken

@@ -8,7 +8,6 @@ use Rattle.reorder_session.specs.Session.{single}
 use Rattle.reorder_session.specs.Calls.{turn}
 use Rattle.reorder_rules.specs.Turn.{is_waiting}
 use Rattle.reorder_rules.proofs.Turns.{turn_packet, turn_missing, turn_waiting}
-use borrow.Author.Rules.{rules}
 use Rattle.reorder_turn.proofs.waits.Goals as goal
 
 by_ahead : (s : Session) → held_at s.window s.window.start ≡ false → (b : Bool) → some_held s.window (s.window.start + s.threshold) ≡ b
