@@ -20,11 +20,15 @@ PROGRAM_GROUPS = ('programs', 'tests')
 
 # Programs that a user has to have, and the words that rt takes first.
 TOOLS = ('rt', 'rustc', 'gcc', 'python3', 'valgrind')
-RT_WORDS = ('check', 'ci', 'dev', 'doc', 'fmt', 'goals', 'mir', 'must-fail', 'prove', 'selftest', 'staticlib', 'try', 'version')
+RT_WORDS = ('all', 'check', 'ci', 'doc', 'expand', 'fmt', 'help', 'lemma', 'lib', 'must-fail', 'new', 'plant', 'run', 'selftest', 'test', 'tidy', 'try',
+            'verdict', 'version')
+
+# The script that builds what stands under target/ for a user.
+BUILD = 'tools/build'
 
 # Words of Rattle and of the language of definitions and proofs, which no file declares.
-KEYWORDS = set('''abbrev arith bool cc else ensures entry exit fn ghost i16 i32 i64 let match module mut needs now omega pub record repr requires return returns search
-    struct Type u16 u32 u64 u8 unfoldable unfolding use usize κs'''.split())
+KEYWORDS = set('''abbrev arith bool cc else ensures fn ghost grind i16 i32 i64 impl let match module mut new now old omega pub record repr requires result return
+    returns rules search simp struct tactic trait Type u16 u32 u64 u8 unfoldable unfolding use using usize'''.split())
 
 # Words in a path that stand for any name.
 ANY = re.compile(r'\b(?:CRATE|FILE|FUNCTION|NAME)\b')
@@ -50,8 +54,14 @@ def uncommented(code):
 
 def imports(text):
     """The names that a file takes from the proof library, which has no file here."""
-    uses = re.findall(r'(?m)^(?:ghost )?use (?!Rattle)\S+?\.\{(.*?)\}', text)
+    own = '|'.join(crates()[0])
+    uses = re.findall(rf'(?m)^(?:ghost )?use (?!Rattle\.(?:{own})\.)\S+?\.\{{([^}}]*)\}}', text)
     return {name.strip() for names in uses for name in names.split(',')}
+
+
+def parts(names):
+    """The words of operators, as `refuse` and `unless` of `refuse◌unless◌else◌`."""
+    return {part for name in names if '◌' in name for part in name.split('◌')}
 
 
 class Definitions:
@@ -83,10 +93,11 @@ class Source:
 
     def __init__(self, text):
         self.code, self.imported = uncommented(text), imports(text)
-        functions = sorted(re.findall(r'(pub )?(?:extern "C" )?fn (\w+)(?:<[^>]*>)?\(([^)]*)\)', self.code))
+        functions = sorted(re.findall(r'(pub )?(?:extern "C" )?fn (\w+)(?:<(?:[^<>]|<[^<>]*>)*>)?\(([^)]*)\)', self.code))
         self.functions = {name: bool(public) for public, name, _ in functions}
-        self.items = set(re.findall(r'\b(?:struct|enum|const) (\w+)', self.code))
-        self.public = set(re.findall(r'\bpub (?:struct|enum|const) (\w+)', self.code))
+        self.exports = set(re.findall(r'\bpub extern "C" fn (\w+)', self.code))
+        self.items = set(re.findall(r'\b(?:struct|enum|const|trait) (\w+)', self.code))
+        self.public = set(re.findall(r'\bpub (?:struct|enum|const|trait) (\w+)', self.code))
         self.cases = {name: set(re.findall(r'(?m)^\s*(\w+)', body)) for name, body in re.findall(r'enum (\w+) \{([^}]*)\}', self.code)}
         lists = [parameters for _, _, parameters in functions] + re.findall(r'struct \w+ \{([^}]*)\}', self.code)
         fields = {name for names in lists for name in re.findall(r'(\w+):', names)}
@@ -130,12 +141,13 @@ def in_full(text):
     return list(map(str, numbers))
 
 
+@lru_cache(None)
 def crates():
     """The group of each crate of crates.txt, and the libraries of the kit that they use."""
-    groups, used, group = {}, set(), ''
+    groups, used, group = {}, {'std'}, ''
     for line in read('crates.txt').split('\n'):
         heading = re.match(r'# -- ([^:]+)', line)
-        entry = re.match(r'(\w+):(.*)', line)
+        entry = re.match(r'(\w+)(?: staticlib)?:(.*)', line)
         group = heading[1] if heading else group
         if entry:
             groups[entry[1]] = group
@@ -155,7 +167,7 @@ class Tree:
         self.cases = Cases()
         self.headers = {Path(path).stem: set(re.findall(r'\w+', uncommented(read(path)))) for path in found('include/*.h')}
         self.output = {Path(path).parts[1]: read(path) for path in found('crates/*/stdout')}
-        files = [path for folder in ('.ci', 'docs', 'tests', 'bench', 'examples') for path in found(folder + '/*') if (HOME / path).is_file()]
+        files = [path for folder in ('.ci', 'docs', 'tests', 'bench', 'examples', 'tools') for path in found(folder + '/*') if (HOME / path).is_file()]
         self.scripts = {path: read(path) for path in files if (HOME / path).read_bytes()[:2] == b'#!'}
         # among them those of the C library and of libraries that are measured beside this one
         self.called_in_c = set(re.findall(r'\b(\w+)\(', '\n'.join(map(read, found('bench/*.c')))))
@@ -172,9 +184,8 @@ class Tree:
         self.declared = set().union(*(source.names for source in sources))
         self.enums = {name: cases for source in sources for name, cases in source.cases.items()}
         self.imported = set().union(*(file.imported for file in (*specs, *sources)))
-        mixfix = {part for name in self.defined if '_' in name for part in name.split('_')}
         variables = set().union(*(file.variables for file in specs), *self.headers.values())
-        self.words = self.defined | self.declared | self.imported | mixfix | variables | KEYWORDS | set(self.groups)
+        self.words = self.defined | self.declared | self.imported | parts(self.defined) | variables | KEYWORDS | set(self.groups)
 
     @lru_cache(None)
     def definitions(self, crate):
@@ -188,15 +199,17 @@ class Tree:
         return self.groups[crate] not in PROGRAM_GROUPS
 
     def is_built(self, path):
-        """What rt makes under target/, programs, archives for C and libraries, and what a command of the README makes there."""
+        """What BUILD makes under target/, of a program or of a library that exports functions, and what a command of the README makes there."""
         if path in re.findall(r'(?m)^    \$ .*(?:>|-o) (target/[\w./-]+)$', read(README)):
             return True
-        made = re.fullmatch(r'target/(?:(?:bin|staticlib|rlib)/?)?|target/(?:bin/(?P<main>\w+)|staticlib/lib(?P<c>\w+)\.a|rlib/(?P<lib>\w+)\.rlib)', path)
-        if not made or not any(made.groups()):
-            return bool(made)
-        if made['c']:
-            return made['c'] in self.sources and 'pub extern "C" fn' in self.sources[made['c']].code
-        return any((HOME / f'crates/{made[kind]}/src/{kind}.rt').is_file() for kind in ('main', 'lib') if made[kind])
+        copied = re.findall(r'(?m)^cp crates/(\w+)/out/(\S+) (target/\S+)$', self.scripts[BUILD])
+        made = {to for crate, file, to in copied if file == crate and (HOME / f'crates/{crate}/src/main.rt').is_file()
+                or file == f'lib{crate}.a' and self.exports(crate)}
+        return path.rstrip('/') in made | {str(folder) for to in made for folder in list(Path(to).parents)[:-1]}
+
+    def exports(self, crate):
+        """The functions that a crate exports to C."""
+        return self.sources[crate].exports if crate in self.sources else set()
 
     def is_path(self, text):
         """A path from the root or in some crate; CRATE, FILE and NAME stand for any name."""
@@ -221,7 +234,7 @@ class Tree:
     def is_command(self, words):
         """A tool that the scripts use, a script, or a program that is built, and what each is given."""
         program, *given = words
-        given = [word for word in given if not re.fullmatch(r'[<>|]|[A-Z]+(?:\.\.\.)?|-.*', word)]
+        given = [word for word in given if not re.fullmatch(r'[<>|]|[A-Z]+\.*|-.*', word)]
         if program == 'rt':
             return words == ['rt'] or words[1] in RT_WORDS and all(word in self.groups for word in given[1:])
         if program in TOOLS:
