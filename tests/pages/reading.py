@@ -6,7 +6,7 @@ from pathlib import Path
 from tree import ANY, FILES, HOME, KEYWORDS, NUMBER, TOOLS, WORD, in_full
 
 # Notation that the pages explain, which has no name in it: symbols, and forms in which a word stands for any name.
-NOTATION = {'≡', '×', '→', '&', '>>', 'r .name', '«name»', 'CRATE/FILE', 'CRATE/NAME'}
+NOTATION = {'≡', '×', '→', '&', '>>', '◌', 'r.name', 'CRATE/FILE', 'CRATE/NAME'}
 
 # Cells of a column Refused that name no edit.
 NO_EDIT = re.compile(r'the edits (?:under|of the rows) "[^"]+" .*|each edit (?:above|of `\w+`)|a write there is no program of the language'
@@ -214,11 +214,11 @@ class Reading:
         return FILES in re.findall(r'\w+', self.span.text) and self.names[i].text in self.tree.cases.kinds[FILES]
 
     def is_ending(self, i):
-        """The end of names, as "ends in `Due`" says, or of one that goes on from the name before, as `jbuf_put` and `_get`."""
+        """The end of names, as "ends in `_due`" says, or of one that goes on from the name before, as `jbuf_put` and `_get`."""
         text = self.names[i].text
-        if text.startswith('_') and i:
-            return self.names[i - 1].text.rpartition('_')[0] + text in self.tree.called_in_c
-        return self.between(i).endswith('ends in ') and any(name.endswith(text) for name in self.tree.defined)
+        if self.between(i).endswith('ends in '):
+            return any(name.endswith(text) for name in self.tree.defined)
+        return text.startswith('_') and i and self.names[i - 1].text.rpartition('_')[0] + text in self.tree.called_in_c
 
     # ---- names in the columns of tables
 
