@@ -6,7 +6,7 @@ from pathlib import Path
 from tree import ANY, FILES, HOME, KEYWORDS, NUMBER, TOOLS, WORD, in_full
 
 # Notation that the pages explain, which has no name in it: symbols, and forms in which a word stands for any name.
-NOTATION = {'≡', '×', '→', '&', '>>', '◌', 'r.name', 'CRATE/FILE', 'CRATE/NAME'}
+NOTATION = {'≡', '×', '→', '&', '>>', '◌', 'r.name', 'x.now', 'x.old', 'x.new', 'CRATE/FILE', 'CRATE/NAME'}
 
 # Cells of a column Refused that name no edit.
 NO_EDIT = re.compile(r'the edits (?:under|of the rows) "[^"]+" .*|each edit (?:above|of `\w+`)|a write there is no program of the language'
@@ -115,7 +115,8 @@ class Reading:
         """A file beside the page, beside one that the span names, or in a crate that it names."""
         folders = {Path('.'), Path('docs')} | {Path(name.text).parent for name in self.names if '/' in name.text}
         folders |= {Path('crates', crate, part) for crate in self.crates for part in ('specs', 'proofs', 'src')}
-        return any((HOME / folder / self.names[i].text).is_file() for folder in folders) and ('path',)
+        text = self.names[i].text
+        return any((HOME / folder / text).is_file() or ANY.search(str(folder)) and self.tree.is_path(f'{folder}/{text}') for folder in folders) and ('path',)
 
     def case(self, i):
         return self.is_case(i, *self.names[i].text.split()) and ('case',)
@@ -188,9 +189,9 @@ class Reading:
         return (self.tree.is_printed(text) or self.is_code(text) and any(word in self.tree.words for word in WORD.findall(text))) and ('piece',)
 
     def is_code(self, text):
-        """Whether each word is a name, a word of the language or a variable of one letter."""
+        """Whether each word is a name or stands for any, is a word of the language, or a variable of one letter."""
         known = self.tree.words | self.span.page.bound
-        return all(len(word) == 1 or word in known for word in WORD.findall(text))
+        return all(len(word) == 1 or word in known or ANY.fullmatch(word) for word in WORD.findall(text))
 
     def plain(self, i):
         """One word."""

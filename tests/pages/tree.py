@@ -27,7 +27,7 @@ RT_WORDS = ('all', 'check', 'ci', 'doc', 'expand', 'fmt', 'help', 'lemma', 'lib'
 BUILD = 'tools/build'
 
 # Words of Rattle and of the language of definitions and proofs, which no file declares.
-KEYWORDS = set('''abbrev arith bool cc else ensures fn ghost grind i16 i32 i64 impl let match module mut new now old omega pub record repr requires result return
+KEYWORDS = set('''abbrev arith auto bool cc else ensures fn ghost grind i16 i32 i64 impl let match module mut new now old omega pub record repr requires result return
     returns rules search simp struct tactic trait Type u16 u32 u64 u8 unfoldable unfolding use using usize'''.split())
 
 # Words in a path that stand for any name.
