@@ -2,7 +2,6 @@
 use Prim.Native.Nat.{◌-◌}
 use native.Mathlib.Omega.{arith}
 use lib.ListN.{length}
-use borrow.Author.Rules.{rules}
 use Rattle.aedr.specs.Printed.{header_size}
 use Rattle.aedr.proofs.Pieces.{answer_short, answer_packet}
 use Rattle.aedr.proofs.answer.Goals as goal

@@ -2,7 +2,6 @@
 use Prim.Native.Nat.{◌+◌, ◌*◌, ◌-◌}
 use native.Mathlib.Omega.{arith}
 use lib.ListN.{length}
-use borrow.Author.Rules.{rules}
 use Rattle.aedr.specs.Printed.{piece_size}
 use Rattle.aedr.proofs.Pieces.{piece_answer}
 use Rattle.aedr.proofs.answer_at.Goals as goal

@@ -1,12 +1,6 @@
 -- The lines of the first i pieces stand in the output, one more each time.
-use Prim.Native.Nat.{◌-◌, ◌*◌, ◌≤◌}
 use mathlib.Core.Path.{◌≡◌, refl, ◌∙◌}
 use native.Mathlib.Omega.{arith}
-use lib.ListN.{length}
-use borrow.Author.Rules.{rules}
-use Rattle.aedr.specs.Printed.{lines}
-use Rattle.aedr.specs.Chunks.{line_room}
-use Rattle.aedr.specs.Text.{TextAt}
 use Rattle.aedr.proofs.Reports.{lines_none, lines_more}
 use Rattle.aedr.proofs.put_lines.Goals as goal
 
@@ -21,9 +15,9 @@ loop-i-preserved c =
     let n = c.answer_at-answer in
     let p = c.put_line-at in (
       omega arith,
-      omega (arith, p.ensures.1),
-      p.auto.0 ∙ l.invariant.2,
-      lines_more a.input.now a.out.now _ _ a.done l.i l.at n.result _ n.ensures.0 l.invariant.3 p.ensures.0,
+      omega (arith, p.ensures.upper_bound),
+      p.auto.out ∙ l.invariant.2,
+      lines_more a.input.now a.out.now _ _ a.done l.i l.at n.result _ n.ensures.0 l.invariant.3 p.ensures.text_at,
     )
 
 pub returns : goal.returns
@@ -31,4 +25,4 @@ returns c =
     let a = c.args in
     let l = c.loop-i in
     let e : l.i ≡ a.count = omega arith in
-    (rw e at l.invariant.3, omega arith)
+    record { text_at = rw e at l.invariant.3; upper_bound = omega arith }

@@ -1,13 +1,10 @@
 -- The lines of the first i pieces stand in the output, one more each time.
 use Prim.Native.Nat.{◌-◌, ◌*◌, ◌≤◌}
-use mathlib.Core.Path.{◌≡◌, refl, ◌∙◌}
-use native.Mathlib.Omega.{arith}
+use mathlib.Core.Path.{◌≡◌}
 use lib.ListN.{length}
-use borrow.Author.Rules.{rules}
 use Rattle.aedr.specs.Printed.{lines}
 use Rattle.aedr.specs.Chunks.{line_room}
 use Rattle.aedr.specs.Text.{TextAt}
-use Rattle.aedr.proofs.Reports.{lines_none, lines_more}
 use Rattle.aedr.proofs.put_lines.Given as goal
 
 abbrev pub invariant-loop-i : goal.invariant-loop-i
