@@ -9,11 +9,11 @@ use Rattle.mola.proofs.mola_read_packet.Goals as goal
 pub returns-in-Refused : goal.returns-in-Refused
 returns-in-Refused c =
     let r = c.read_packet-read.ensures in
-    let d = ap packet_said (sym c.answer-1.given.1) ∙ r.0 in
+    let d = ap packet_said (sym c.in-Refused.is) ∙ r.0 in
     λ i. record { refusal = ap refusal_in d i; fields = (c.no_fields.ensures ∙ ap fields_in d) i; arrays = r.1 i }
 
 pub returns-in-Accepted : goal.returns-in-Accepted
 returns-in-Accepted c =
     let r = c.read_packet-read.ensures in
-    let d = ap packet_said (sym c.answer-in-Accepted-1.given.1) ∙ r.0 in
+    let d = ap packet_said (sym c.in-Accepted.is) ∙ r.0 in
     λ i. record { refusal = ap refusal_in d i; fields = ap fields_in d i; arrays = r.1 i }

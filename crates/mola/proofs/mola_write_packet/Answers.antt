@@ -10,9 +10,9 @@ use Rattle.mola.proofs.mola_write_packet.Goals as goal
 pub returns-in-Refused : goal.returns-in-Refused
 returns-in-Refused c =
     let w = c.write_packet-written.ensures in
-    (ap (λ (a : PacketWritten). refusal_in (written_said a)) (sym c.written-1.given.1) ∙ ap refusal_in w.0 ∙ number_say _ tt, w.1)
+    (ap (λ (a : PacketWritten). refusal_in (written_said a)) (sym c.in-Refused.is) ∙ ap refusal_in w.0 ∙ number_say _ tt, w.1)
 
 pub returns-in-Written : goal.returns-in-Written
 returns-in-Written c =
     let w = c.write_packet-written.ensures in
-    (ap (λ (a : PacketWritten). refusal_in (written_said a)) (sym c.enum_told-1.given.1) ∙ ap refusal_in w.0 ∙ number_say _ tt, w.1)
+    (ap (λ (a : PacketWritten). refusal_in (written_said a)) (sym c.in-Written.is) ∙ ap refusal_in w.0 ∙ number_say _ tt, w.1)
