@@ -55,9 +55,8 @@ loop-k-preserved c =
     let h = c.loop-k-test.true in
     let high = c.descriptor_word-high in
     let low = c.descriptor_word-low in
-    let known = c in
-    let s = known.args.bytes.now in
-    let tests = shot_tests s (λ i. (known.shared_slice_known-1.given i).fits) low.result high.result l.k _ _ _ _ _ low.ensures high.ensures h
+    let s = c.args.bytes.now in
+    let tests = shot_tests s (λ i. (c.type_inv.bytes i).fits) low.result high.result l.k _ _ _ _ _ low.ensures high.ensures h
     c.is_set.ensures c.is_set-in-loop-k.ensures c.is_set-in-loop-k-2.ensures
     c.is_set-in-loop-k-3.ensures c.is_set-in-loop-k-4.ensures in
     fill_more (failures_at s) _ l.failures l.k _ h tests l.invariant
