@@ -12,7 +12,6 @@ use Rattle.pedr_block.specs.declared.Block.{Block}
 use Rattle.pedr_block.proofs.Frame.{case_is_index}
 use Rattle.pedr_check.proofs.Accept.{accepted}
 use Rattle.pedr.specs.Read.{record_said}
-use borrow.Author.Rules.{rules}
 use Rattle.pedr_laws.proofs.frame_read.Goals as goal
 
 pub returns-in_default : goal.returns-in_default
