@@ -5,7 +5,6 @@ use Prim.Native.Nat.{ℕ}
 use Rattle.pedr_block.specs.declared.Block.{Block}
 use Rattle.pedr_block_runs.specs.declared.BlockRuns.{BlockRuns}
 use Rattle.pedr_block_round_trip.specs.Kept.{TypedBlock}
-use borrow.Author.Rules.{rules}
 use Rattle.pedr_block_round_trip.proofs.type_block.Goals as goal
 
 -- what holds of a block holds of an equal one

@@ -34,6 +34,6 @@ returns c =
     ▶ (let of_type = s.well_formed.0.1.1.1.1.1.1.1.1.1.0 in one 1 s.args.fields.command_error_count (search rules))
     ▶ (let of_type = s.well_formed.0.1.1.1.1.1.1.1.1.1.1.0 in one 1 s.args.fields.transmitter_threshold_setting (search rules))
     ▶ (let of_type = s.well_formed.0.1.1.1.1.1.1.1.1.1.1.1.0 in one 1 s.args.fields.range_tracking_status (search rules))
-    ▶ bytes s.args.carried.now 0 2 (λ k. (c.shared_slice_known-1.given k).fits)
+    ▶ bytes s.args.carried.now 0 2 (λ k. (c.type_inv.carried k).fits)
     ▶ items 4 s.args.tracker (omega (arith, tracker_is.0)) (λ k. (tracker_is.1 k).fits)
     ▶ tt

@@ -25,7 +25,7 @@ returns c =
     let dump_is = dump s in
     items 6 s.args.tracker (omega (arith, tracker_is.0)) (λ k. (tracker_is.1 k).fits)
     ▶ (let of_type = s.well_formed.0.1.1.0 in one 4 s.args.fields.hstart_value_histogram_dump (search rules))
-    ▶ bytes s.args.carried.now 0 4 (λ k. (c.shared_slice_known-1.given k).fits)
+    ▶ bytes s.args.carried.now 0 4 (λ k. (c.type_inv.carried k).fits)
     ▶ (let of_type = s.well_formed.0.1.1.1.0 in one 2 s.args.fields.valid_commands_received_count (search rules))
     ▶ items 3 s.args.dump (omega (arith, dump_is.0)) (λ k. (dump_is.1 k).fits)
     ▶ tt
