@@ -19,7 +19,7 @@ lines_front xs ys done (suc j) h =
     rw (lines_front xs ys done j (omega arith), d, t)
 
 -- the lines of a first part of j whole pieces, then those of the rest
-lines_parts : (xs ys : List ℕ) (done j m : ℕ) → length xs ≡ piece_size * j
+pub lines_parts : (xs ys : List ℕ) (done j m : ℕ) → length xs ≡ piece_size * j
     → lines (xs ++ ys) done (j + m) ≡ lines xs done j ++ lines ys (done + j) m
 unfolding lines
 lines_parts xs ys done j zero h =

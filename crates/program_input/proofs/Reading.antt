@@ -6,7 +6,7 @@ use native.Mathlib.Omega.{arith}
 use lib.Dec.{ltb}
 use lib.ListN.{length, take}
 use mathlib.Core.List.{List, [], ◌++◌}
-use borrow.Author.Tests.{ltb-true, ltb-false, lt-ltb, le-ltb}
+use borrow.Author.Tests.{ltb-true}
 use Rattle.std.proofs.Common.{Option, None, Some, append_assoc, ap}
 use Rattle.std.proofs.lemmas.List.{append-nil, take-append-le}
 use Rattle.std.proofs.Math.Seq.{take-append_seam, take-append-add}
@@ -16,7 +16,7 @@ use Rattle.program_input.specs.declared.Read.TheVariants as Rd
 use Rattle.program_input.specs.declared.Chunk.{Chunk}
 use Rattle.program_input.specs.declared.Chunk.TheVariants as Ch
 use Rattle.program_input.specs.declared.ReadStep.TheVariants as St
-use Rattle.program_input.specs.Chunk.{ReadWithin, ReadsWithin, after_read, ChunkWithin, chunk_bytes, ReadTakes, ChunkTakes}
+use Rattle.program_input.specs.Chunk.{ReadWithin, ReadsWithin, after_read, ChunkWithin, chunk_bytes, ReadTakes}
 
 -- known bytes of which none are taken, and of which one part is after another
 pub consumes_none : (old : Option (List ℕ)) → Consumes old old []
@@ -28,18 +28,11 @@ keeps_consumes None new h = tt
 keeps_consumes (Some xs) None h = h
 keeps_consumes (Some xs) (Some ys) h = sym h
 
-consumes_both : (old mid new : Option (List ℕ)) (bs cs : List ℕ) → Consumes old mid bs → Consumes mid new cs → Consumes old new (bs ++ cs)
+pub consumes_both : (old mid new : Option (List ℕ)) (bs cs : List ℕ) → Consumes old mid bs → Consumes mid new cs → Consumes old new (bs ++ cs)
 consumes_both None mid new bs cs h k = tt
 consumes_both (Some xs) None new bs cs h k = absurd h
 consumes_both (Some xs) (Some ys) None bs cs h k = k
 consumes_both (Some xs) (Some ys) (Some zs) bs cs h k = h ∙ ap (λ (l : List ℕ). bs ++ l) k ∙ sym (append_assoc bs cs zs)
-
--- bytes that leave room, and bytes that fill the buffer
-pub bytes_more : (before n room : ℕ) → before + n < room → St.More (before + n) ≡ after_read before (Rd.Bytes n) room
-bytes_more before n room h = rw (lt-ltb (before + n) room h)
-
-pub bytes_full : (before n room : ℕ) → room ≤ before + n → St.Done (Ch.Full (before + n)) ≡ after_read before (Rd.Bytes n) room
-bytes_full before n room h = rw (le-ltb (before + n) room h)
 
 -- how many more reads there can be, after `before` bytes and this read
 abbrev pub reads_left : ℕ → Read → ℕ → ℕ
@@ -78,25 +71,6 @@ next_less Rd.Failed count rest room h l e = omega arith
 next_less Rd.End count rest room h l e = omega arith
 next_less (Rd.Bytes n) count rest room h l e = omega arith
 
--- the last fills the buffer or leaves room
-pub step_done : (read : Read) (before room : ℕ) (chunk : Chunk) → ReadsWithin before read room → St.Done chunk ≡ after_read before read room → ChunkWithin room chunk
-step_done Rd.Failed before room chunk h e = subst (ChunkWithin room) (sym q) tt
-  where
-    q : chunk ≡ Ch.Failed
-    q = cc
-step_done Rd.End before room chunk h e = subst (ChunkWithin room) (sym q) h
-  where
-    q : chunk ≡ Ch.Last before
-    q = cc
-step_done (Rd.Bytes n) before room chunk h e = chosen (ltb (before + n) room) refl e
-  where
-    chosen : (b : Bool) → ltb (before + n) room ≡ b → St.Done chunk ≡ cond b (St.More (before + n)) (St.Done (Ch.Full (before + n))) → ChunkWithin room chunk
-    chosen true l q = let z : ◌≡◌ {A = ℕ} 0 1 = cc in absurd (omega arith)
-    chosen false l q =
-        let z : chunk ≡ Ch.Full (before + n) = cc in
-        let f : before + n ≡ room = omega (arith, ltb-false (before + n) room l) in
-        subst (ChunkWithin room) (sym z) f
-
 -- the bytes of a chunk fit the buffer
 pub count_fits : (chunk : Chunk) (room : ℕ) → ChunkWithin room chunk → chunk_bytes chunk ≤ room
 count_fits Ch.Failed room h = omega arith
@@ -130,16 +104,3 @@ so_far_next Rd.End count old mid new head rest tail e r w h k =
 so_far_next (Rd.Bytes n) count old mid new head rest tail e r w h k =
     let f : n ≤ length rest = w.1 in
     rw (e, take-append-add, take-append-le n rest tail f) (consumes_both old mid new head (take n rest) h k)
-
--- the last read
-pub so_far_done : (read : Read) (before room : ℕ) (chunk : Chunk) (old new : Option (List ℕ)) (buf : List ℕ) → St.Done chunk ≡ after_read before read room
-    → SoFar old new before read buf → ChunkTakes old new chunk buf
-so_far_done Rd.Failed before room chunk old new buf e h =
-    let q : chunk ≡ Ch.Failed = cc in rw q (before, h)
-so_far_done Rd.End before room chunk old new buf e h =
-    let q : chunk ≡ Ch.Last before = cc in rw q h
-so_far_done (Rd.Bytes n) before room chunk old new buf e h = chosen (ltb (before + n) room) e
-  where
-    chosen : (b : Bool) → St.Done chunk ≡ cond b (St.More (before + n)) (St.Done (Ch.Full (before + n))) → ChunkTakes old new chunk buf
-    chosen true q = cc
-    chosen false q = let z : chunk ≡ Ch.Full (before + n) = cc in rw z h

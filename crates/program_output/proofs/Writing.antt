@@ -1,34 +1,31 @@
 -- Laws of what a write's answer means, and of what it makes of a text.
 use Prim.Native.Nat.{ℕ, ◌+◌, ◌-◌, ◌<◌, ◌≤◌}
 use mathlib.Core.Path.{◌≡◌, refl, sym, ◌∙◌}
-use mathlib.Core.Bool.{Bool, true, false, cond}
+use mathlib.Core.Bool.{Bool, true, false, cond, false≢true}
 use native.Mathlib.Omega.{arith}
 use lib.Dec.{ltb}
 use lib.ListN.{length, take, drop, length-drop}
 use lib.Seq.{take_all}
 use mathlib.Core.List.{List, [], ◌++◌}
-use borrow.Author.Tests.{ltb-true, lt-ltb, le-ltb}
+use borrow.Author.Tests.{ltb-true, ltb-false}
 use Rattle.std.proofs.Common.{Option, None, Some, append_assoc, ap}
 use Rattle.std.proofs.lemmas.List.{append-nil}
 use Rattle.std.proofs.Math.Seq.{take-add}
-use Rattle.std.specs.Io.KnownBytes.{Keeps, Appends}
+use Rattle.std.specs.Io.KnownBytes.{Appends}
 use Rattle.program_output.specs.declared.Wrote.{Wrote}
 use Rattle.program_output.specs.declared.Wrote.TheVariants as Wr
+use Rattle.program_output.specs.declared.Written.{Written}
 use Rattle.program_output.specs.declared.Written.TheVariants as Wn
 use Rattle.program_output.specs.declared.WriteStep.TheVariants as St
-use Rattle.program_output.specs.Written.{WroteWithin, bytes_taken, after_write}
+use Rattle.program_output.specs.declared.Printed.{Printed}
+use Rattle.program_output.specs.Written.{TextWritten, is_whole, WroteWithin, bytes_taken, after_write}
 
 -- known bytes that grow by none, and by one part after another
 pub appends_none : (old : Option (List ℕ)) → Appends old old []
 appends_none None = tt
 appends_none (Some xs) = sym (append-nil xs)
 
-keeps_appends : (old new : Option (List ℕ)) → Keeps old new → Appends old new []
-keeps_appends None new h = tt
-keeps_appends (Some xs) None h = h
-keeps_appends (Some xs) (Some ys) h = h ∙ sym (append-nil xs)
-
-appends_both : (old mid new : Option (List ℕ)) (bs cs : List ℕ) → Appends old mid bs → Appends mid new cs → Appends old new (bs ++ cs)
+pub appends_both : (old mid new : Option (List ℕ)) (bs cs : List ℕ) → Appends old mid bs → Appends mid new cs → Appends old new (bs ++ cs)
 appends_both None mid new bs cs h k = tt
 appends_both (Some xs) None new bs cs h k = absurd h
 appends_both (Some xs) (Some ys) None bs cs h k = k
@@ -40,13 +37,6 @@ rest text m = take_all (length text - m) (drop m text) (rw length-drop (omega ar
 pub appends_more : (old mid new : Option (List ℕ)) (text : List ℕ) (m n : ℕ) → Appends old mid (take m text)
     → Appends mid new (take n (take (length text - m) (drop m text))) → Appends old new (take (m + n) text)
 appends_more old mid new text m n h k = rw take-add (appends_both old mid new _ _ h (rw (rest text m) at k))
-
--- bytes that leave some of the text, and bytes that leave none
-pub bytes_more : (before n size : ℕ) → before + n < size → St.More (before + n) ≡ after_write before (Wr.Bytes n) size
-bytes_more before n size h = rw (lt-ltb (before + n) size h)
-
-pub bytes_whole : (before n size : ℕ) → size ≤ before + n → St.Done Wn.Whole ≡ after_write before (Wr.Bytes n) size
-bytes_whole before n size h = rw (le-ltb (before + n) size h)
 
 -- how many more writes there can be, after `before` bytes and this write
 abbrev pub writes_left : ℕ → Wrote → ℕ → ℕ
@@ -86,3 +76,17 @@ next_fits (Wr.Bytes n) count rest size h l e = omega arith
 pub next_less : (wrote : Wrote) (count rest size : ℕ) → WroteWithin rest wrote → count < size → rest ≡ size - count → writes_left count wrote size < 1 + (size - count)
 next_less Wr.Failed count rest size h l e = omega arith
 next_less (Wr.Bytes n) count rest size h l e = omega arith
+
+-- a text that was written whole
+whole_last : (wrote : Wrote) (written : Written) (before size : ℕ) → St.Done written ≡ after_write before wrote size → is_whole written ≡ true
+    → size ≤ before + bytes_taken wrote
+whole_last Wr.Failed written before size e w =
+    let q : written ≡ Wn.Failed before = cc in absurd (false≢true (ap is_whole (sym q) ∙ w))
+whole_last (Wr.Bytes n) written before size e w = chosen (ltb (before + n) size) refl e
+  where
+    chosen : (b : Bool) → ltb (before + n) size ≡ b → St.Done written ≡ cond b (St.More (before + n)) (St.Done Wn.Whole) → size ≤ before + n
+    chosen true l q = let z : ◌≡◌ {A = ℕ} 0 1 = cc in absurd (omega arith)
+    chosen false l q = ltb-false (before + n) size l
+
+pub taken_all : (r : Printed) (size : ℕ) → TextWritten r size → is_whole r.written ≡ true → r.before + bytes_taken r.last ≡ size
+taken_all r size t w = omega (arith, t.length, t.within, whole_last r.last r.written r.before r.size t.ended w)
