@@ -1,23 +1,22 @@
 -- Laws of the count that goes on from chunk to chunk.
 use Prim.Native.Nat.{ℕ, ◌+◌, ◌-◌, ◌*◌, ◌<◌, ◌≤◌}
-use mathlib.Core.Path.{◌≡◌, refl, sym, ap, subst, ◌∙◌}
-use mathlib.Core.Bool.{Bool, true, false, false≢true}
+use mathlib.Core.Path.{◌≡◌, refl, sym, ap, ◌∙◌}
+use mathlib.Core.Bool.{Bool, true, false}
 use mathlib.Core.List.{List}
 use native.Mathlib.Omega.{arith}
-use lib.ListN.{length, take}
 use Rattle.program_output.specs.declared.Printed.{Printed}
 use Rattle.program_io.specs.declared.Next.{Next}
 use Rattle.program_io.specs.declared.Next.TheVariants.{Continue, Close, Stop, TooLong}
-use Rattle.program_input.specs.Chunk.{ChunkWithin, chunk_bytes}
+use Rattle.program_input.specs.Chunk.{chunk_bytes}
 use Rattle.program_output.specs.Written.{TextWritten, is_whole}
 use Rattle.program_io.specs.Next.{chunks_most, after_chunk, is_continue, is_close}
 use Rattle.program_input.proofs.Reading.{count_fits}
 use Rattle.program_io.proofs.Following.{is_continue_lem, is_close_lem, continue_full}
-use Rattle.aedr.specs.Printed.{pieces_in, all_lines}
+use Rattle.aedr.specs.Printed.{pieces_in}
 use Rattle.aedr.specs.Chunks.{chunk_pieces, chunk_size}
 use Rattle.aedr_io.specs.declared.Progress.{Progress}
 use Rattle.aedr_io.specs.declared.Chunks.{Chunks}
-use Rattle.aedr_io.specs.Check.{records_after, bytes_of, ChunkPrinted, ChunksPrinted, FileChecked}
+use Rattle.aedr_io.specs.Check.{records_after, ChunkPrinted, ChunksPrinted, FileChecked}
 
 -- a chunk adds no piece or all of its own
 records_low : (next : Next) (done n : ℕ) → done ≤ records_after next done n
@@ -31,20 +30,6 @@ records_high Continue done n = omega arith
 records_high Close done n = omega arith
 records_high Stop done n = omega arith
 records_high TooLong done n = omega arith
-
--- a chunk, from what its calls answered
-pub printed_chunk : (p : Progress) (full done read : ℕ) (buf out text : List ℕ) → length buf ≡ chunk_size → ChunkWithin (length buf) p.chunk
-    → read ≡ chunk_bytes p.chunk → text ≡ all_lines (take read buf) done → take p.printed.size out ≡ text → TextWritten p.printed (length text)
-    → p.next ≡ after_chunk full (is_whole p.printed.written) p.chunk → p.records ≡ records_after p.next done read → ChunkPrinted p full done buf out
-printed_chunk p full done read buf out text l w c e t s n d =
-    let b : text ≡ all_lines (bytes_of p.chunk buf) done = e ∙ ap (λ (m : ℕ). all_lines (take m buf) done) c in
-    record {
-      within = rw l at w;
-      text = t ∙ b;
-      written = subst (TextWritten p.printed) (ap length b) s;
-      next = n;
-      records = d ∙ ap (records_after p.next done) c;
-    }
 
 module _ (p : Progress) (full done : ℕ) (buf out : List ℕ) (h : ChunkPrinted p full done buf out) where
   low : done ≤ p.records
@@ -76,18 +61,6 @@ module _ (p : Progress) (full done : ℕ) (buf out : List ℕ) (h : ChunkPrinted
 
 -- the check, before its closing line and with it
 module _ (r : Chunks) (buf out : List ℕ) (h : ChunksPrinted r buf out) where
-  pub not_closed : is_close r.last.next ≡ false
-      → FileChecked (record { records = r.last.records; complete = false; full = r.full; chunk = r.last.chunk; printed = r.last.printed })
-  not_closed e = record {
-    within = h.last.within;
-    written = record { length = refl; within = h.last.written.within; ended = h.last.written.ended };
-    complete = sym (ap is_close (sym h.last.next) ∙ e);
-    most = h.most;
-    low = low r.last r.full (chunk_pieces * r.full) buf out h.last;
-    high = high r.last r.full (chunk_pieces * r.full) buf out h.last;
-    pieces = λ w. absurd (false≢true w);
-  }
-
   pub closed : is_close r.last.next ≡ true → (complete : Bool) (printed : Printed) → TextWritten printed printed.size
       → complete ≡ is_close (after_chunk r.full (is_whole printed.written) r.last.chunk)
       → FileChecked (record { records = r.last.records; complete = complete; full = r.full; chunk = r.last.chunk; printed = printed })

@@ -11,6 +11,9 @@ use Rattle.program_io.specs.Next.{chunks_most}
 use Rattle.aedr.specs.Printed.{all_lines, total}
 use Rattle.aedr.specs.Chunks.{chunk_pieces, chunk_size, chunk_room, report, closing}
 use Rattle.aedr.proofs.Reports.{closing_total}
+use Rattle.program_input.specs.declared.Chunk.{Chunk}
+use Rattle.program_input.specs.Chunk.{chunk_bytes}
+use Rattle.aedr_io.specs.Check.{bytes_of}
 use Rattle.aedr.proofs.Whole.{chunk_lines}
 
 -- a text that was stored at the start is what stands there
@@ -23,6 +26,15 @@ pub report_lines : (buf : List ℕ) (n done room : ℕ) → length buf ≡ chunk
     → report (take n buf) done room ≡ all_lines (take n buf) done
 report_lines buf n done room l k h =
     ap (report (take n buf) done) k ∙ chunk_lines (take n buf) done (omega (arith, length-take n buf)) (omega (arith, length-take n buf))
+
+-- what stands at the start of the output after a chunk's report
+pub chunk_text : (chunk : Chunk) (buf out new : List ℕ) (read r done : ℕ) → length buf ≡ chunk_size → length out ≡ chunk_room → done ≤ chunk_pieces * chunks_most
+    → read ≡ chunk_bytes chunk → r ≡ length (report (take read buf) done (length out)) → new ≡ put out 0 (report (take read buf) done (length out)) → r ≤ length out
+    → take r new ≡ all_lines (bytes_of chunk buf) done
+chunk_text chunk buf out new read r done l k h c e q f =
+    stored (report (take read buf) done (length out)) out new r e q f
+    ∙ report_lines buf read done (length out) l k h
+    ∙ ap (λ (m : ℕ). all_lines (take m buf) done) c
 
 pub closing_text : (n room : ℕ) → room ≡ chunk_room → closing n room ≡ total n
 closing_text n room k = closing_total n room (omega arith)

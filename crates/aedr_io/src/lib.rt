@@ -1,24 +1,27 @@
 // Checks an AEDR file that is open: reads it in chunks of 213 pieces, writes the lines of each chunk, and then the total. The contracts say which
-// text stands in `out` when it is printed, for the bytes that stand in `buf`; how the count of pieces goes on from chunk to chunk; and what follows
-// a chunk by how its reads ended and whether its text was written. By `aedr::chunks_print_the_whole` these texts, one after the other, are what is
-// to be printed for the whole input.
+// text is written for the bytes that were read; how the count of pieces goes on from chunk to chunk; and what follows a chunk by how its reads ended
+// and whether its text was written. What is written is the start of what is to be printed for the bytes that were read, and in a complete check all
+// of that, for all of the input.
 //
-// No contract can say what is read or written. So this stays unproved, and tests/program.rs runs the program:
-// - that the bytes in `buf` come from the descriptor;
-// - which bytes go to standard output: the contracts say what stands in `out` when it is printed, and that the length of the text handed to
-//   `program_output::print` is that of the text there, not that these bytes are what is written;
+// Standard input and output are a reader and a writer of which no contract can say what they have and got. So this stays unproved, and tests/program.rs
+// runs the program:
+// - that the bytes which are read are those of standard input, and the bytes which are written reach standard output;
 // - that a failure is told.
-// A program that reads nothing and writes nothing would meet the promise of `check_file`.
 #![tactic(auto)]
 
 ghost use Rattle.std.specs.Prelude.{◌≡◌, ◌*◌, ◌≤◌, length};
 ghost use Rattle.program_io.specs.Next.{chunks_most};
+ghost use Rattle.program_input.specs.Chunk.{ChunkTakes};
+ghost use Rattle.program_output.specs.Written.{text_taken};
+ghost use Rattle.std.specs.Io.KnownBytes.{Appends};
+ghost use Rattle.aedr.specs.Printed.{all_lines};
 ghost use Rattle.aedr.specs.Chunks.{chunk_pieces, chunk_size, chunk_room};
-ghost use Rattle.aedr_io.specs.Check.{records_after, ChunkPrinted, ChunksPrinted, Ran, FileChecked};
+ghost use Rattle.aedr_io.specs.Check.{records_after, bytes_of, ChunkPrinted, ChunksPrinted, ChunksMoved, Ran, FileChecked, WholePrinted};
 
 use program_input::Chunk;
 use program_io::Next;
 use program_output::Printed;
+use std::io;
 
 // The pieces whose lines are written, with `records` before a chunk of `read` bytes.
 fn records_after(next: Next, records: u64, read: usize) -> u64
@@ -44,15 +47,26 @@ struct Progress {
 }
 
 // Prints the chunk after `full` others of `records` pieces.
-fn print_chunk(fd: i32, full: u64, records: u64, buf: &mut [u8], out: &mut [u8]) -> Progress
+fn print_chunk<R: io::Read, W: io::Write, E: io::Write>(
+    input: &mut R,
+    output: &mut W,
+    errors: &mut E,
+    full: u64,
+    records: u64,
+    buf: &mut [u8],
+    out: &mut [u8],
+) -> Progress
     requires { (length buf.old ≡ chunk_size) × (length out.old ≡ chunk_room) × (records ≤ chunk_pieces * chunks_most) }
-    ensures { ChunkPrinted result full records buf.new out.new }
+    ensures printed { ChunkPrinted result full records buf.new out.new }
+    ensures reads { ChunkTakes (R.remaining input.old) (R.remaining input.new) result.chunk buf.new }
+    ensures writes { Appends (W.contents output.old) (W.contents output.new)
+        (text_taken result.printed (all_lines (bytes_of result.chunk buf.new) records)) }
 {
-    let chunk = program_input::fill(fd, buf);
+    let chunk = program_input::fill(input, errors, buf);
     let read = program_input::count(chunk);
     let text = aedr::report(&buf[..read], records, out);
-    let printed = program_output::print(&out[..text]);
-    let next = program_io::after_chunk(full, chunk, printed);
+    let printed = program_output::print(output, errors, &out[..text]);
+    let next = program_io::after_chunk(errors, full, chunk, printed);
     let records = records_after(next, records, read);
     Progress {
         chunk,
@@ -70,14 +84,22 @@ struct Chunks {
 }
 
 // Prints chunk after chunk, each numbered on from those before it.
-fn print_chunks(fd: i32, buf: &mut [u8], out: &mut [u8]) -> Chunks
+fn print_chunks<R: io::Read, W: io::Write, E: io::Write>(
+    input: &mut R,
+    output: &mut W,
+    errors: &mut E,
+    buf: &mut [u8],
+    out: &mut [u8],
+) -> Chunks
     requires { (length buf.old ≡ chunk_size) × (length out.old ≡ chunk_room) }
-    ensures { ChunksPrinted result buf.new out.new }
+    ensures printed { ChunksPrinted result buf.new out.new }
+    ensures moved { ChunksMoved result buf.new (R.remaining input.old) (R.remaining input.new)
+        (W.contents output.old) (W.contents output.new) }
 {
     let mut records: u64 = 0;
     let mut full: u64 = 0;
     loop {
-        let last = print_chunk(fd, full, records, buf, out);
+        let last = print_chunk(input, output, errors, full, records, buf, out);
         let next = last.next;
         if !program_io::continues(next) {
             return Chunks { full, last };
@@ -99,11 +121,19 @@ pub struct Checked {
 }
 
 // Prints the chunks, and where the input ended the closing line.
-fn run(fd: i32, buf: &mut [u8], out: &mut [u8]) -> Checked
+fn run<R: io::Read, W: io::Write, E: io::Write>(
+    input: &mut R,
+    output: &mut W,
+    errors: &mut E,
+    buf: &mut [u8],
+    out: &mut [u8],
+) -> Checked
     requires { (length buf.old ≡ chunk_size) × (length out.old ≡ chunk_room) }
-    ensures { Ran result out.new }
+    ensures ran { Ran result out.new }
+    ensures printed { WholePrinted result (R.remaining input.old) (R.remaining input.new)
+        (W.contents output.old) (W.contents output.new) }
 {
-    let chunks = print_chunks(fd, buf, out);
+    let chunks = print_chunks(input, output, errors, buf, out);
     let full = chunks.full;
     let last = chunks.last;
     let chunk = last.chunk;
@@ -120,8 +150,8 @@ fn run(fd: i32, buf: &mut [u8], out: &mut [u8]) -> Checked
         };
     }
     let closing = aedr::close(records, out);
-    let printed = program_output::print(&out[..closing]);
-    let next = program_io::after_chunk(full, chunk, printed);
+    let printed = program_output::print(output, errors, &out[..closing]);
+    let next = program_io::after_chunk(errors, full, chunk, printed);
     let complete = program_io::closes(next);
     Checked {
         records,
@@ -132,12 +162,18 @@ fn run(fd: i32, buf: &mut [u8], out: &mut [u8]) -> Checked
     }
 }
 
-// Checks the file on fd. It ends, the count of pieces does not wrap, and a complete check has counted the pieces of all that was read. A failed read
-// or write is told on standard error, and then nothing more is written on standard output: the decision is proved, the writing is not.
-pub fn check_file(fd: i32) -> Checked
-    ensures { FileChecked result }
+// Checks the file that input reads. It ends, the count of pieces does not wrap, and a complete check has printed all that is to be printed for the whole
+// input, and counted its pieces. A failed read or write is told on errors, and then nothing more is written to output.
+pub fn check_file<R: io::Read, W: io::Write, E: io::Write>(
+    input: &mut R,
+    output: &mut W,
+    errors: &mut E,
+) -> Checked
+    ensures checked { FileChecked result }
+    ensures printed { WholePrinted result (R.remaining input.old) (R.remaining input.new)
+        (W.contents output.old) (W.contents output.new) }
 {
     let mut buf = [0u8; aedr::CHUNK];
     let mut out = [0u8; aedr::CHUNK_ROOM];
-    run(fd, &mut buf, &mut out)
+    run(input, output, errors, &mut buf, &mut out)
 }
