@@ -1,6 +1,6 @@
 // The check program on an empty input.
 #![tactic(auto)]
 
-fn main() {
-    aedr_io::check_file(libc::STDIN_FILENO);
+fn main(rt: HostRuntime) {
+    aedr_io::check_file(&mut rt.stdin(), &mut rt.stdout(), &mut rt.stderr());
 }
