@@ -4,6 +4,9 @@ use Rattle.std.proofs.Math.Option.{Option, none, some}
 use mir.Syntax.{Ty, ty_int, ty_bool, ty_array, w8, w16, w32}
 use mir.Val.{Val, vint, vbool, vstruct, of_list, of_z}
 use prog.Memory.{size, align, field_of}
+use denote.Laws.{Is}
+use denote.Struct.Declared.{Declared, shape, row}
+use denote.Struct.Struct.{layout}
 use Rattle.octets.specs.Table.{table}
 
 -- how the values of A lie in memory: their type there, and each one's value of that type
@@ -46,13 +49,23 @@ infix 70 ◌at◌is◌
 abbrev pub ◌at◌is◌ : {S A : Type 0} → Kind A → ℕ → (S → A) → Field S
 k at b is f = record { type = k.type; byte = b; value = λ s. k.value (f s) }
 
+abbrev pub value_of : {S : Type 0} → List (Field S) → S → Val
+value_of fields s = vstruct (of_list (map (λ f. f.value s) fields))
+
+-- the type of a declared struct in memory, and the struct as a field: its value is those of its fields
+abbrev pub type_of : Declared → Ty
+type_of T = layout (shape T)
+
+abbrev pub held : (T : Declared) → List (Field T.D) → Kind T.D
+held T fields = record { type = type_of T; value = value_of fields }
+
 -- the first n fields of a type: the type of each, and the byte where it begins
 abbrev pub fields_of : ℕ → Ty → List (Option (Ty × ℕ))
 fields_of n τ = table n (field_of τ)
 
--- the struct has so many bytes, is aligned so, and has these fields in this order, and no other
-pub record Laid {S : Type 0} (k : Kind S) (bytes alignment : ℕ) (fields : List (Field S)) : Type 0 where
-  pub sized : size k.type ≡ bytes
-  pub aligned : align k.type ≡ alignment
-  pub placed : fields_of (suc (length fields)) k.type ≡ map (λ f. some (f.type, f.byte)) fields ++ (none ∷ [])
-  pub valued : (s : S) → k.value s ≡ vstruct (of_list (map (λ f. f.value s) fields))
+-- the struct has so many bytes, is aligned so, and has these fields in this order, and no other: v is what lies in memory where the struct is s
+pub record Laid (T : Declared) (bytes alignment : ℕ) (fields : List (Field T.D)) : Type 0 where
+  pub sized : size (type_of T) ≡ bytes
+  pub aligned : align (type_of T) ≡ alignment
+  pub placed : fields_of (suc (length fields)) (type_of T) ≡ map (λ f. some (f.type, f.byte)) fields ++ (none ∷ [])
+  pub valued : (s : T.D) (v : Val) → Is (row T) s (v ∷ []) → v ≡ value_of fields s
