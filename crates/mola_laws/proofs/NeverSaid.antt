@@ -1,6 +1,6 @@
 -- Ladders of refusals that never give a number: no rung has it, or the rung that has it is passed.
 use Prim.Native.Nat.{ℕ, zero, suc}
-use mathlib.Core.Path.{◌≡◌, refl, sym, ◌∙◌}
+use mathlib.Core.Path.{◌≡◌}
 use mathlib.Core.Bool.{Bool, true, false}
 use Rattle.octets.specs.Refusal.{refuse◌unless◌else◌, ◌then◌}
 
