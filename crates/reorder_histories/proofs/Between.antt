@@ -21,7 +21,7 @@ use Rattle.reorder_rules.proofs.Ready.{ServeReady, serve_ready, DrainReady, drai
 use Rattle.reorder_laws.specs.Serves.{answer_at}
 use Rattle.reorder_laws.proofs.Pieces.{piece_same, slot_length, shown_packet}
 use Rattle.reorder_rules.proofs.Turns.{Split, turns_split, turns_most}
-use Rattle.reorder_histories.specs.History as Any
+use Rattle.reorder_histories.specs.History as History-rules
 use Rattle.reorder_histories.specs.History.{Call, offer, serve, drain, pass, offers, Event, gave, called_missing, turns_tell, serve_tells, drain_tells, pass_tells}
 use Rattle.reorder_histories.specs.Histories.{State, step, run, WaitsAfter, NotTooFar, PassRefused, Supposed}
 
@@ -74,7 +74,7 @@ no_turn σ = (0, same_state σ)
 -- ---- a serve
 
 serve_turns : (σ : State) (out : List ℕ) → ByTurns σ (step σ (serve out))
-unfolding Any.step Serve-rules.serve_of turns_tell after_turn after_turns
+unfolding History-rules.step Serve-rules.serve_of turns_tell after_turn after_turns
 serve_turns σ out = go (say n (turn s)) refl
   where
     s : Session
@@ -166,7 +166,7 @@ all_turns (suc n) σ = go (turns_split single n s) (all_turns n (after_turn σ))
     )
 
 drain_turns : (σ : State) (out : List ℕ) (budget : ℕ) → ByTurns σ (step σ (drain out budget))
-unfolding Any.step Serve-rules.drain_of
+unfolding History-rules.step Serve-rules.drain_of
 drain_turns σ out budget = go (say n (turns budget s)) refl
   where
     s : Session
@@ -202,7 +202,7 @@ drain_turns σ out budget = go (say n (turns budget s)) refl
 -- ---- a pass that is refused
 
 pass_turns : (σ : State) → PassRefused σ → ByTurns σ (step σ pass)
-unfolding Any.step Pass-rules.pass_of
+unfolding History-rules.step Pass-rules.pass_of
 pass_turns σ (m, e) = go (say (pass_refusal s) s.window.start) e
   where
     s : Session
@@ -240,7 +240,7 @@ played_after offered σ u v (b ∷ bs) t q =
     )
 
 pub played : (cs : List Call) (offered : Bool) (σ : State) → Supposed offered σ cs → Played offered σ (offers cs) (run σ cs)
-unfolding Supposed Played offers Any.run_by after_turns
+unfolding Supposed Played offers History-rules.run_by after_turns
 played [] offered σ f = (0, f, refl)
 played (offer b ∷ cs) offered σ f = (0, f.0, f.1, played cs true (step σ (offer b)) f.2)
 played (serve out ∷ cs) offered σ f =

@@ -23,7 +23,7 @@ use Rattle.reorder_rules.proofs.Said.{said_is}
 use Rattle.reorder_rules.proofs.Free.{offered_free}
 use Rattle.reorder_rules.proofs.Taken.{taken_offer}
 use Rattle.reorder_session.proofs.Whole.{fit_whole}
-use Rattle.reorder_histories.specs.History as Any
+use Rattle.reorder_histories.specs.History as History-rules
 use Rattle.reorder_histories.specs.History.{offer, offer_tells}
 use Rattle.reorder_histories.specs.Histories.{State, step, NotTooFar}
 use Rattle.reorder_histories.proofs.Between.{same_state}
@@ -113,5 +113,5 @@ module _ (f : ℕ) (a b : State) (lk : Link f a b) (x : List ℕ) where
       (take_both f a b p x lk (a_takes p t) t (subst (λ (k : ℕ). Takes b k x) i u))
 
   pub link_offer : NotTooFar a x → NotTooFar b x → Link f (step a (offer x)) (step b (offer x))
-  unfolding Any.step Offer-rules.offer_of
+  unfolding History-rules.step Offer-rules.offer_of
   link_offer na nb = after_both na nb (said_by a x) (said_by b x) refl refl

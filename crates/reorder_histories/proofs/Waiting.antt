@@ -23,7 +23,7 @@ use Rattle.reorder_turn.proofs.Turns.{shows}
 use Rattle.reorder_session.proofs.Whole.{Whole, whole, unbroken, whole_fit, fit_whole}
 use Rattle.reorder_laws.proofs.Kept.{keeps_turns, calls_keep}
 use Rattle.reorder_laws.proofs.Drains.{drained, fine}
-use Rattle.reorder_histories.specs.History as Any
+use Rattle.reorder_histories.specs.History as History-rules
 use Rattle.reorder_histories.specs.History.{offer, drain, offers}
 use Rattle.reorder_histories.specs.Histories.{State, step, Waits, WaitsAfter, Supposed, Consumer, at_start}
 use Rattle.reorder_histories.specs.Drained.{whole_budget, Arrival, packet_of, drained_after_each, Sized, NoneTooFar, DrainedConsumer, DrainsMeetDemand3}
@@ -51,7 +51,7 @@ past_all (suc n) s h = go (moves_or (turn s)) (past_all n (one_turn s))
 
 drained_waits : (σ : State) (out : List ℕ) (ts : List Turn) → (drain_of σ.session out σ.store whole_budget).said ≡ answered ts
     → Waits (step σ (drain out whole_budget))
-unfolding Any.step
+unfolding History-rules.step
 drained_waits σ out ts e =
     let s = σ.session in
     let d = drained s out σ.store whole_budget ts e in
@@ -74,7 +74,7 @@ record Ready (σ : State) : Type 0 where
   size : length σ.store ≡ 34560
 
 after_offer : (σ : State) (b : List ℕ) → Ready σ → Ready (step σ (offer b))
-unfolding Any.step
+unfolding History-rules.step
 after_offer σ b r =
     record {
       sound = whole _ ((calls_keep.by_offer σ.session σ.store b).unbroken (unbroken σ.session r.sound));
@@ -83,7 +83,7 @@ after_offer σ b r =
 
 module _ (out : List ℕ) (room : length out ≡ 34560) where
   after_drain : (σ : State) → Ready σ → Ready (step σ (drain out whole_budget))
-  unfolding Any.step
+  unfolding History-rules.step
   after_drain σ r =
       record {
         sound = whole _ ((calls_keep.by_drain σ.session out σ.store whole_budget).unbroken (unbroken σ.session r.sound));

@@ -9,19 +9,19 @@ use Rattle.reorder_session.specs.declared.Session.{Session}
 use Rattle.reorder_session.specs.Session.{single}
 use Rattle.reorder_session.specs.Calls.{offer_of, serve_of, pass_of}
 use Rattle.reorder_offer.specs.Opening.{open_of}
-use Rattle.reorder_histories.specs.History as Any
+use Rattle.reorder_histories.specs.History as History-rules
 use Rattle.reorder_histories.specs.History.{Call, offer, serve, drain, pass, offers, start}
 
 -- ---- the lists of a reorder buffer of one consumer
 
 abbrev pub State : Type 0
-State = Any.State Session
+State = History-rules.State Session
 
 abbrev pub step : State → Call → State
-step = Any.step single
+step = History-rules.step single
 
 abbrev pub run : State → List Call → State
-run = Any.run single
+run = History-rules.run single
 
 -- ---- what is supposed of one list
 
@@ -87,10 +87,10 @@ pub record OpenedAlike (less more : Consumer) (b : List ℕ) (word : ℕ) : Type
 -- ---- what then holds at the end
 
 abbrev pub StillHeld : State → ℕ → List ℕ → Type 0
-StillHeld = Any.StillHeld single
+StillHeld = History-rules.StillHeld single
 
 abbrev pub NothingLost : State → State → Type 0
-NothingLost = Any.NothingLost single
+NothingLost = History-rules.NothingLost single
 
 -- "Demand 3 is one claim about the two whole lists, not one for each call."
 abbrev pub HigherThresholdLosesNothing : Type 0

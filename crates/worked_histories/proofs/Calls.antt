@@ -34,7 +34,7 @@ use Rattle.reorder_laws.proofs.Kept.{calls_keep}
 use Rattle.reorder_laws.proofs.Pieces.{piece_same, slot_length}
 use Rattle.reorder_laws.proofs.Bytes.{bytes_come_out}
 use Rattle.reorder_laws.proofs.Drains.{drained, drained_packet}
-use Rattle.reorder_histories.specs.History as Any
+use Rattle.reorder_histories.specs.History as History-rules
 use Rattle.reorder_histories.specs.History.{Call, offer, serve, drain, pass, Event, took, gave, called_missing, offer_tells, serve_tells, drain_tells, pass_tells}
 use Rattle.reorder_histories.specs.Histories.{State, step, run, Waits, WaitsAfter, Supposed, Consumer, opening}
 use Rattle.reorder_histories.proofs.Between.{turns_told, told_all}
@@ -182,7 +182,7 @@ module _ {σ : State} {s : Session} {es : List Event} (k : Stands σ s es) where
   -- what is left: by an offer that takes a packet, and by one that takes none
   after_take : (p : ℕ) → offer_due s 34560 (packet_at p) ≡ answered p
       → Stands (step σ (offer (packet_at p))) (with_window s (holding s.window p)) (es ++ took p (packet_at p) ∷ [])
-  unfolding Offer-rules.offer_of Any.step
+  unfolding Offer-rules.offer_of History-rules.step
   after_take p e =
       let b = packet_at p in
       let a : (offer_of σ.session σ.store b).said ≡ answered p = offer_said b ∙ e in
@@ -206,7 +206,7 @@ module _ {σ : State} {s : Session} {es : List Event} (k : Stands σ s es) where
           (record { held = ap (λ (u : Session). held_at u.window q) k.session ∙ f; bytes = k.bytes q f })).bytes
 
   after_no_take : (b : List ℕ) (n : ℕ) → offer_due s 34560 b ≡ refused n → Stands (step σ (offer b)) s es
-  unfolding Offer-rules.offer_of Any.step
+  unfolding Offer-rules.offer_of History-rules.step
   after_no_take b n e =
       let a : (offer_of σ.session σ.store b).said ≡ refused n = offer_said b ∙ e in
       let l = left_refused (offer_due σ.session (length σ.store) b) σ.session σ.store _ _ n a in
@@ -225,7 +225,7 @@ module _ {σ : State} {s : Session} {es : List Event} (k : Stands σ s es) where
 
   after_serve : (n x : ℕ) (y : Said Turn) → says_serve s n ≡ y
       → Stands (step σ (serve (filled n x))) (turned_all s (turn_of y)) (es ++ turns_told packet_at (turn_of y))
-  unfolding Any.step Serve-rules.serve_of Turn-rules.turned_all
+  unfolding History-rules.step Serve-rules.serve_of Turn-rules.turned_all
   after_serve n x (refused m) e =
       let a : (by_serve σ n x).said ≡ refused m = serve_said n x ∙ e in
       let l = left_refused (say (serve_refusal σ.session (length σ.store) (length (filled n x))) (turn σ.session)) σ.session (filled n x) _ _ m a in
@@ -256,7 +256,7 @@ module _ {σ : State} {s : Session} {es : List Event} (k : Stands σ s es) where
 
   after_drain : (n x budget : ℕ) (y : Said (List Turn)) → says_drain s n budget ≡ y
       → Stands (step σ (drain (filled n x) budget)) (turned_all s (turns_of y)) (es ++ turns_told packet_at (turns_of y))
-  unfolding Any.step Serve-rules.drain_of Turn-rules.turned_all
+  unfolding History-rules.step Serve-rules.drain_of Turn-rules.turned_all
   after_drain n x budget (refused m) e =
       let a : (by_drain σ n x budget).said ≡ refused m = drain_said n x budget ∙ e in
       let y = say (drain_refusal σ.session (length σ.store) (length (filled n x)) budget) (turns budget σ.session) in
@@ -276,7 +276,7 @@ module _ {σ : State} {s : Session} {es : List Event} (k : Stands σ s es) where
       (ap (λ (z : Said (List Turn)). drain_tells z (by_drain σ n x budget).bytes) a ∙ told_all packet_at (by_drain σ n x budget).bytes ts 0 there)
 
   after_no_pass : (m : ℕ) → says_pass s ≡ refused m → Stands (step σ pass) s es
-  unfolding Pass-rules.pass_of Any.step
+  unfolding Pass-rules.pass_of History-rules.step
   after_no_pass m e =
       let a : (pass_of σ.session).said ≡ refused m = pass_said ∙ e in
       let l = left_refused (say (pass_refusal σ.session) σ.session.window.start) σ.session [] _ _ m a in
@@ -289,14 +289,14 @@ module _ {σ : State} {s : Session} {es : List Event} (k : Stands σ s es) where
 -- ---- lists of calls
 
 pub no_more : {σ : State} {s : Session} {es : List Event} → Stands σ s es → says_serve s 1080 ≡ answered waiting → Comes true σ [] [] s es
-unfolding Supposed refusals Any.run_by
+unfolding Supposed refusals History-rules.run_by
 no_more k e = record { supposed = waits k e; numbers = refl; ends = k }
 
 -- one more call before a list
 before : {offered then_offered : Bool} {σ : State} {c : Call} {cs : List Call} {n : ℕ} {ns : List ℕ} {s : Session} {es : List Event}
     → refusal σ c ≡ n → (Supposed then_offered (step σ c) cs → Supposed offered σ (c ∷ cs)) → Comes then_offered (step σ c) cs ns s es
     → Comes offered σ (c ∷ cs) (n ∷ ns) s es
-unfolding refusals Any.run_by
+unfolding refusals History-rules.run_by
 before e f r = record { supposed = f r.supposed; numbers = (λ i. e i ∷ r.numbers i); ends = r.ends }
 
 module _ {offered : Bool} {σ : State} {s : Session} {es : List Event} {cs : List Call} {ns : List ℕ} {t : Session} {fs : List Event} (k : Stands σ s es) where
