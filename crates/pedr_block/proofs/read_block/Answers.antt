@@ -3,6 +3,9 @@ use mathlib.Core.Path.{sym, ap, ◌∙◌}
 use Rattle.pedr_layout.proofs.Frames.{at_1, at_2, at_3, at_4, at_5, at_6, at_rest}
 use Rattle.pedr_block.specs.Block.{block_of}
 use Rattle.pedr_block.specs.declared.Block.TheVariants.{Frame1, Frame2, Frame3, Frame5, Frame6, Frame7}
+use native.Mathlib.Omega.{arith}
+use Rattle.layout.specs.Column.{value}
+use Rattle.pedr_layout.specs.Layout.{frame_index}
 use Rattle.pedr_block.proofs.read_block.Goals as goal
 
 pub returns-in-1 : goal.returns-in-1
@@ -32,7 +35,5 @@ returns-in-6 c = ap Frame6 c.read_frame_6.ensures ∙ sym (at_6 _ _ _ _ _ _ _ _ 
 pub returns-in_default : goal.returns-in_default
 unfolding block_of
 returns-in_default c =
-    let r = c.in_default.in_default-own.rest in
-    let e = c.u16_at-frame.ensures in
     ap Frame7 c.read_frame_7.ensures
-    ∙ sym (at_rest _ _ _ _ _ _ _ _ (λ z. r.0.0.0.0.0.1 (e ∙ z)) (λ z. r.0.0.0.0.1 (e ∙ z)) (λ z. r.0.0.0.1 (e ∙ z)) (λ z. r.0.0.1 (e ∙ z)) (λ z. r.0.1 (e ∙ z)) (λ z. r.1 (e ∙ z)))
+    ∙ sym (at_rest (value c.args.bytes.now frame_index) _ _ _ _ _ _ _ (omega arith) (omega arith) (omega arith) (omega arith) (omega arith) (omega arith))

@@ -3,6 +3,7 @@ use mathlib.Core.Path.{sym, ◌∙◌}
 use borrow.Author.Tests.{ne_eqb}
 use Rattle.pedr_layout.proofs.Frames.{at_1, at_2, at_3, at_4, at_5, at_6, at_rest}
 use Rattle.pedr_block_c.specs.Numbers.{block_of_numbers}
+use native.Mathlib.Omega.{arith}
 use Rattle.pedr_block_c.proofs.block_of.Goals as goal
 
 pub returns-in-1 : goal.returns-in-1
@@ -36,6 +37,5 @@ returns-in-7 c = sym (simp c.in-7.is)
 pub returns-in_default : goal.returns-in_default
 unfolding block_of_numbers
 returns-in_default c =
-    let r = c.in_default.in_default-own.rest in
     c.other_block.ensures
-    ∙ sym (at_rest _ _ _ _ _ _ _ _ r.0.0.0.0.0.0.1 r.0.0.0.0.0.1 r.0.0.0.0.1 r.0.0.0.1 r.0.0.1 r.0.1 ∙ simp (ne_eqb _ 7 r.1))
+    ∙ sym (at_rest c.args.numbers.frame _ _ _ _ _ _ _ (omega arith) (omega arith) (omega arith) (omega arith) (omega arith) (omega arith) ∙ simp (ne_eqb c.args.numbers.frame 7 (omega arith)))

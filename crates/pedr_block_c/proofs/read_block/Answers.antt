@@ -4,6 +4,9 @@ use Rattle.pedr_layout.proofs.Frames.{at_1, at_2, at_3, at_4, at_5, at_6, at_res
 use Rattle.pedr_block.specs.Block.{block_of}
 use Rattle.pedr_block_c.specs.Numbers.{block_numbers}
 use Rattle.pedr_block_c.specs.declared.BlockNumbers.{BlockNumbers}
+use native.Mathlib.Omega.{arith}
+use Rattle.layout.specs.Column.{value}
+use Rattle.pedr_layout.specs.Layout.{frame_index}
 use Rattle.pedr_block_c.proofs.read_block.Goals as goal
 
 pub returns-in-1 : goal.returns-in-1
@@ -109,5 +112,4 @@ returns-in_default c =
       frame_6 = c.no_frame_6-z6.ensures i;
       frame_7 = c.read_frame_7.ensures i;
     } in
-    let r = c.in_default.in_default-own.rest in
-    c.numbers-in_default.ensures ∙ e ∙ ap block_numbers (sym (at_rest _ _ _ _ _ _ _ _ (λ q. r.0.0.0.0.0.1 (c.u16_at-frame.ensures ∙ q)) (λ q. r.0.0.0.0.1 (c.u16_at-frame.ensures ∙ q)) (λ q. r.0.0.0.1 (c.u16_at-frame.ensures ∙ q)) (λ q. r.0.0.1 (c.u16_at-frame.ensures ∙ q)) (λ q. r.0.1 (c.u16_at-frame.ensures ∙ q)) (λ q. r.1 (c.u16_at-frame.ensures ∙ q))))
+    c.numbers-in_default.ensures ∙ e ∙ ap block_numbers (sym (at_rest (value c.args.bytes.now frame_index) _ _ _ _ _ _ _ (omega arith) (omega arith) (omega arith) (omega arith) (omega arith) (omega arith)))

@@ -2,6 +2,9 @@
 use mathlib.Core.Path.{sym, ap, ◌∙◌}
 use Rattle.pedr_layout.proofs.Frames.{at_1, at_2, at_3, at_4, at_5, at_6, at_rest}
 use Rattle.pedr_block_runs.specs.Carried.{carried_by, carried_of}
+use native.Mathlib.Omega.{arith}
+use Rattle.layout.specs.Column.{value}
+use Rattle.pedr_layout.specs.Layout.{frame_index}
 use Rattle.pedr_block_runs.proofs.read_carried.Goals as goal
 
 pub returns-in-1 : goal.returns-in-1
@@ -31,8 +34,6 @@ returns-in-6 c = ap (carried_by c.args.bytes.now) (sym (at_6 _ _ _ _ _ _ _ _ (sy
 pub returns-in_default : goal.returns-in_default
 unfolding carried_of
 returns-in_default c =
-    let r = c.in_default.in_default-own.rest in
-    let e = c.u16_at-frame.ensures in
     c.read_carried_7.ensures
     ∙ ap (carried_by c.args.bytes.now)
-    (sym (at_rest _ _ _ _ _ _ _ _ (λ z. r.0.0.0.0.0.1 (e ∙ z)) (λ z. r.0.0.0.0.1 (e ∙ z)) (λ z. r.0.0.0.1 (e ∙ z)) (λ z. r.0.0.1 (e ∙ z)) (λ z. r.0.1 (e ∙ z)) (λ z. r.1 (e ∙ z))))
+    (sym (at_rest (value c.args.bytes.now frame_index) _ _ _ _ _ _ _ (omega arith) (omega arith) (omega arith) (omega arith) (omega arith) (omega arith)))

@@ -2,6 +2,9 @@
 use mathlib.Core.Path.{sym, ◌∙◌}
 use Rattle.pedr_layout.proofs.Frames.{at_3, at_4, at_5, at_6, at_others}
 use Rattle.pedr_block_runs.specs.Runs.{runs_of}
+use native.Mathlib.Omega.{arith}
+use Rattle.layout.specs.Column.{value}
+use Rattle.pedr_layout.specs.Layout.{frame_index}
 use Rattle.pedr_block_runs.proofs.read_runs.Goals as goal
 
 pub returns-in-3 : goal.returns-in-3
@@ -23,6 +26,4 @@ returns-in-6 c = c.read_runs_6.ensures ∙ sym (at_6 _ _ _ _ _ _ _ _ (sym c.u16_
 pub returns-in_default : goal.returns-in_default
 unfolding runs_of
 returns-in_default c =
-    let r = c.in_default.in_default-own.rest in
-    let e = c.u16_at-frame.ensures in
-    c.no_runs.ensures ∙ sym (at_others _ _ _ _ _ _ (λ z. r.0.0.0.1 (e ∙ z)) (λ z. r.0.0.1 (e ∙ z)) (λ z. r.0.1 (e ∙ z)) (λ z. r.1 (e ∙ z)))
+    c.no_runs.ensures ∙ sym (at_others (value c.args.bytes.now frame_index) _ _ _ _ _ (omega arith) (omega arith) (omega arith) (omega arith))
