@@ -1,0 +1,9 @@
+-- The digest stays below 65,521.
+use Rattle.std.proofs.Common.{◌-◌, ◌≤◌, length}
+use Rattle.packet_vectors.proofs.show.digest.Given as goal
+
+abbrev pub invariant-loop-k : goal.invariant-loop-k
+invariant-loop-k l = (l.k ≤ length l.bytes) × (l.made ≤ 65520)
+
+abbrev pub decreases-loop-k : goal.decreases-loop-k
+decreases-loop-k l = length l.bytes - l.k
