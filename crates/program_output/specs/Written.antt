@@ -1,5 +1,6 @@
 -- What the answers of writes mean, and what they make of a text.
-use Rattle.std.specs.Prelude.{ℕ, ◌+◌, ◌<◌, ◌≤◌, min, ◌≡◌, Bool, true, false, cond, eqb, ltb, List, take, Result, Ok, Err}
+use Rattle.std.specs.Prelude.{ℕ, ◌+◌, ◌<◌, ◌≤◌, min, ◌≡◌, Bool, true, false, cond, eqb, ltb, List, take, Option, Result, Ok, Err}
+use Rattle.std.specs.Io.KnownBytes.{Appends}
 use Rattle.program_output.specs.declared.Wrote.{Wrote}
 use Rattle.program_output.specs.declared.Wrote.TheVariants as Wr
 use Rattle.program_output.specs.declared.Written.{Written}
@@ -38,6 +39,10 @@ pub record TextWritten (r : Printed) (size : ℕ) : Type 0 where
 -- the bytes of a text that its writes took
 abbrev pub text_taken : Printed → List ℕ → List ℕ
 text_taken r text = take (r.before + bytes_taken r.last) text
+
+-- known bytes stay, and some come behind them
+abbrev pub Grows : Option (List ℕ) → Option (List ℕ) → Type 0
+Grows old new = (more : List ℕ) × Appends old new more
 
 -- all of a text was taken
 abbrev pub is_whole : Written → Bool

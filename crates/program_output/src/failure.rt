@@ -1,4 +1,7 @@
 // Telling a failure of the system on standard error.
+ghost use Rattle.program_output.specs.Written.{Grows};
+
+use crate::write;
 use std::io::{Error, Write};
 use std::str;
 
@@ -21,12 +24,15 @@ fn put_error(error: Error, told: &mut [u8]) -> usize {
 }
 
 // Writes a line to standard error: what failed, as the caller names it, a colon and the system's text. What standard error does not take is not told.
-pub fn fail<E: Write>(errors: &mut E, what: &[u8], error: Error) {
+pub fn fail<E: Write>(errors: &mut E, what: &[u8], error: Error)
+    ensures { Grows (E.contents errors.old) (E.contents errors.new) }
+{
     let mut told = [0u8; 256];
     let left = put_error(error, &mut told);
     let text = system_text(&told[..told.len().saturating_sub(left)]);
-    let _ = errors.write_all(what);
-    let _ = errors.write_all(b": ");
-    let _ = errors.write_all(text.as_bytes());
-    let _ = errors.write_all(b"\n");
+    let mut failure = None;
+    let _named = write(errors, what, &mut failure);
+    let _colon = write(errors, b": ", &mut failure);
+    let _text = write(errors, text.as_bytes(), &mut failure);
+    let _end = write(errors, b"\n", &mut failure);
 }
