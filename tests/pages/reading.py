@@ -10,7 +10,7 @@ NOTATION = {'≡', '×', '→', '&', '>>', '◌', 'r.name', 'x.now', 'x.old', 'x
 
 # Cells of a column Refused that name no edit.
 NO_EDIT = re.compile(r'the edits (?:under|of the rows) "[^"]+" .*|each edit (?:above|of `\w+`)|a write there is no program of the language'
-                     r'|to be seen in the sources|none: it promises nothing|a program whose output differs fails the gate')
+                     r'|to be seen in the sources|a program whose output differs fails the gate')
 
 FILE_NAME = re.compile(r'[\w.-]+\.(?:antt|c|edit|h|md|py|rs|rt|svg|txt)')
 ITEM = re.compile(r'\b\w+(?:::\w+)+')
