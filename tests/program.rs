@@ -9,15 +9,11 @@ use std::fs::{self, File};
 use std::io::{self, Write};
 use std::os::fd::OwnedFd;
 use std::os::unix::net::UnixStream;
-use std::os::unix::process::ExitStatusExt;
 use std::process::{self, Child, Command, Output, Stdio};
 use std::thread;
 
 /// The program reads and prints 213 records in a chunk.
 const CHUNK: usize = 213 * AEDR_RECORD;
-
-/// The signal that ends a program that writes to a pipe with no reader.
-const SIGPIPE: i32 = 13;
 
 pub fn program(harness: &mut Harness, random: &Random, path: &str) {
     for length in [
@@ -82,7 +78,7 @@ fn compare(harness: &mut Harness, random: &Random, path: &str, input: &[u8]) {
     let expected: Vec<&str> = expected.split_inclusive('\n').collect();
     harness.same_items(call, "line", &lines, &expected);
     harness.same(call, String::from_utf8_lossy(&output.stderr).as_ref(), "");
-    harness.same(call, output.status.code().is_some(), true);
+    harness.same(call, output.status.code(), Some(0));
     harness.program_runs += 1;
     for piece in input.chunks(AEDR_RECORD) {
         harness.printed[usize::from(check_piece(piece))] += 1;
@@ -119,10 +115,10 @@ fn run(random: &Random, path: &str, input: &[u8]) -> io::Result<Output> {
 fn unreadable(harness: &mut Harness, path: &str) {
     let call = format_args!("{path}, a directory as input");
     let run = File::open("/").and_then(|directory| Command::new(path).stdin(directory).output());
-    ran(harness, call, run, "", "read: Is a directory\n", None);
+    ran(harness, call, run, "", "read: Is a directory\n");
     let call = format_args!("{path}, standard input closed");
     let run = shell(path, "exec \"$0\" <&-").output();
-    ran(harness, call, run, "", "read: Bad file descriptor\n", None);
+    ran(harness, call, run, "", "read: Bad file descriptor\n");
 }
 
 /// An input that can be read so far, and whose next read fails: the lines of the chunks that were read whole, no total, and the failure on
@@ -133,7 +129,7 @@ fn break_off(harness: &mut Harness, path: &str, input: &[u8]) {
     let total = whole.find("records").expect("a text ends with its total");
     let run = run_broken(path, input);
     let errors = "read: Connection reset by peer\n";
-    ran(harness, call, run, &whole[..total], errors, None);
+    ran(harness, call, run, &whole[..total], errors);
 }
 
 /// A socket that is closed with a byte unread resets the connection: the other end can read what was sent, and then gets an error.
@@ -154,18 +150,14 @@ fn run_broken(path: &str, input: &[u8]) -> io::Result<Output> {
     })
 }
 
-/// An output that takes nothing: the failure is told once, and no further write is tried. A pipe with no reader ends the program by a signal,
-/// unless that is ignored.
+/// An output that takes nothing: the failure is told once, and no further write is tried. A pipe with no reader is such an output too, whether
+/// or not the shell ignores its signal.
 fn unwritable(harness: &mut Harness, path: &str, input: &[u8]) {
-    for (script, errors, signal) in [
-        (
-            "exec \"$0\" >/dev/full",
-            "write: No space left on device\n",
-            None,
-        ),
-        ("exec \"$0\" >&-", "write: Bad file descriptor\n", None),
-        ("trap '' PIPE; exec \"$0\"", "write: Broken pipe\n", None),
-        ("exec \"$0\"", "", Some(SIGPIPE)),
+    for (script, errors) in [
+        ("exec \"$0\" >/dev/full", "write: No space left on device\n"),
+        ("exec \"$0\" >&-", "write: Bad file descriptor\n"),
+        ("trap '' PIPE; exec \"$0\"", "write: Broken pipe\n"),
+        ("exec \"$0\"", "write: Broken pipe\n"),
     ] {
         let call = format_args!("{path} by {script}, input of {} bytes", input.len());
         let run = shell(path, script).spawn().and_then(|mut child| {
@@ -173,7 +165,7 @@ fn unwritable(harness: &mut Harness, path: &str, input: &[u8]) {
             drop(child.stdout.take());
             feed(child, input)
         });
-        ran(harness, call, run, "", errors, signal);
+        ran(harness, call, run, "", errors);
     }
 }
 
@@ -203,7 +195,7 @@ fn cut_off(harness: &mut Harness, path: &str) {
             &text[..taken.len()]
         };
         harness.same(call, taken.as_str(), expected);
-        ran(harness, call, run, "", errors, None);
+        ran(harness, call, run, "", errors);
     }
     harness.same(format_args!("{path} by {script}"), cut > 0, true);
     // The file is gone where the last run could not make it.
@@ -232,15 +224,8 @@ fn feed(mut child: Child, input: &[u8]) -> io::Result<Output> {
     })
 }
 
-/// What a run wrote to standard output and to standard error, and the signal that ended it.
-fn ran(
-    harness: &mut Harness,
-    call: Arguments,
-    run: io::Result<Output>,
-    text: &str,
-    errors: &str,
-    signal: Option<i32>,
-) {
+/// What a run wrote to standard output and to standard error. A program that fails ends with status 0 too.
+fn ran(harness: &mut Harness, call: Arguments, run: io::Result<Output>, text: &str, errors: &str) {
     let output = match run {
         Ok(output) => output,
         Err(error) => harness.differ(call, format_args!("cannot be run: {error}")),
@@ -251,6 +236,6 @@ fn ran(
         String::from_utf8_lossy(&output.stderr).as_ref(),
         errors,
     );
-    harness.same(call, output.status.signal(), signal);
+    harness.same(call, output.status.code(), Some(0));
     harness.program_runs += 1;
 }
