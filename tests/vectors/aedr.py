@@ -19,8 +19,8 @@ def check(data):
 
 
 def case_lines():
-    """The files that aedr_cases names, and last a descriptor that is not open, of which nothing can be read."""
-    names = re.findall(r'\bfile\(b"(\w+)"\);', (CRATES / "aedr_cases/src/main.rt").read_text())
+    """The files that aedr_cases names, and last an input of which nothing can be read."""
+    names = re.findall(r'\bfile\(rt, "(\w+)"\);', (CRATES / "aedr_cases/src/main.rt").read_text())
     for name in names:
         checked, records = check((CRATES / "aedr_cases/data" / name).read_bytes())
         yield from [name, *checked, f"complete {records}"]
