@@ -12,10 +12,9 @@ mod rows;
 mod shots;
 mod show;
 
-// The first n rows in turn; each finds the record as the last one left it.
-
 use std::io::Stdout;
 
+// The first n rows in turn; each finds the record as the last one left it.
 fn run_all(stdout: Stdout, n: usize) {
     let mut room = [0; 800];
     let mut length = pedr_layout::RECORD_SIZE;

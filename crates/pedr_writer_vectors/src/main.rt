@@ -9,10 +9,9 @@ mod rows;
 mod show;
 mod writes;
 
-// The first n rows in turn; each finds the fields as the last one left them.
-
 use std::io::Stdout;
 
+// The first n rows in turn; each finds the fields as the last one left them.
 fn run_all(stdout: Stdout, n: usize) {
     let mut g = given::filled_record(stdout, cases::ZEROS, 1);
     let mut i = 0;

@@ -15,10 +15,9 @@ mod registers;
 mod rows;
 mod show;
 
-// The rows of a table, the first of which starts a history.
-
 use std::io::Stdout;
 
+// The rows of a table, the first of which starts a history.
 fn run_all(stdout: Stdout, table: &[u64], store: &mut [u8], out: &mut [u8]) {
     let mut r = registers::fresh();
     let mut i = 0;
