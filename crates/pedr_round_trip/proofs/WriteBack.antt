@@ -17,7 +17,7 @@ use Rattle.octets.proofs.Fill.{map_table, table_same, octets_count}
 use Rattle.octets.specs.Refusal.{after}
 use Rattle.octets.proofs.Ladder.{pass_eq, then_fail, then_pass}
 use Rattle.octets.proofs.Read.{nat_lt}
-use Rattle.layout.specs.Column.{Sign, unsigned, complement, item, values, number_at, numbers_at, number_octets, numbers_octets, cut, join}
+use Rattle.layout.specs.Column.{Sign, unsigned, complement, item, number_at, numbers_at, number_octets, numbers_octets, cut, join}
 use Rattle.layout.proofs.Cover.{join_cut}
 use Rattle.layout.proofs.Values.{write_number, write_numbers}
 use Rattle.pedr_layout.specs.Layout as columns

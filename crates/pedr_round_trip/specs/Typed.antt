@@ -1,6 +1,6 @@
 -- What the types of a record's fields and arrays say of their values, as far as a round trip needs it: refusal 49 bounds the bits of the quality, the
 -- descriptor and the encoders.
-use Rattle.std.specs.Prelude.{ℕ, ◌^◌, ◌<◌, ◌≡◌, map, length}
+use Rattle.std.specs.Prelude.{◌^◌, ◌<◌, ◌≡◌, map, length}
 use Rattle.octets.specs.Bytes.{SignedFits}
 use Rattle.layout.specs.Column.{unsigned, complement, HoldsAll}
 use Rattle.pedr_layout.specs.Layout as columns

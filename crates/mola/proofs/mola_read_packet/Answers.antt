@@ -3,7 +3,6 @@ use mathlib.Core.Path.{sym, ap, ◌∙◌}
 use Rattle.octets.specs.Refusal.{refusal_in}
 use Rattle.packet.specs.Read.{packet_said}
 use Rattle.mola.specs.Read.{fields_in}
-use borrow.Author.Rules.{rules}
 use Rattle.mola.proofs.mola_read_packet.Goals as goal
 
 pub returns-in-Refused : goal.returns-in-Refused

@@ -4,7 +4,6 @@ use Rattle.octets.specs.Refusal.{refusal_in}
 use Rattle.octets.proofs.Ladder.{number_say}
 use Rattle.packet_writer.specs.declared.PacketWritten.{PacketWritten}
 use Rattle.packet_writer.specs.Write.{written_said}
-use borrow.Author.Rules.{rules}
 use Rattle.mola.proofs.mola_write_packet.Goals as goal
 
 pub returns-in-Refused : goal.returns-in-Refused

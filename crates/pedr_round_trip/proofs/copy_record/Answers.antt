@@ -15,7 +15,6 @@ use Rattle.pedr_arrays.specs.Uninterpreted.{uninterpreted_of, no_uninterpreted}
 use Rattle.pedr_fields.specs.Fields.{fields_of}
 use Rattle.pedr_writer.specs.Write.{write_due, write_bytes}
 use Rattle.pedr_round_trip.proofs.WriteBack.{copy_refused, copy_number, copy_bytes}
-use borrow.Author.Rules.{rules}
 use Rattle.pedr_round_trip.proofs.copy_record.Goals as goal
 
 pub returns-in_default : goal.returns-in_default

@@ -1,6 +1,4 @@
 -- Array by array, by its type.
-use mathlib.Core.Path.{sym, ◌∙◌}
-use lib.ListN.{length-map}
 use mir.Syntax.{w8, w16, w32}
 use borrow.Author.Rules.{rules, elem_Fits}
 use Rattle.pedr_round_trip.proofs.type_arrays.Goals as goal

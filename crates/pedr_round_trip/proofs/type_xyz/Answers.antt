@@ -1,11 +1,9 @@
 -- Element by element, by its type; past the end stands 0.
-use Prim.Native.Nat.{ℕ, zero, suc, ◌≤◌}
+use Prim.Native.Nat.{zero, suc, ◌≤◌}
 use mathlib.Core.Path.{◌≡◌, sym, subst}
 use native.Mathlib.Omega.{arith}
-use lib.IntN.{ℤ, pos}
+use lib.IntN.{pos}
 use lib.ListN.{length, get_or, get_or-eq_default}
-use mir.Syntax.{w32}
-use mir.Val.{SFits}
 use Rattle.octets.specs.Bytes.{SignedFits}
 use borrow.Author.Rules.{rules}
 use Rattle.pedr_round_trip.proofs.Bounds.{signed_32}

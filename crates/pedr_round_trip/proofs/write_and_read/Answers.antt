@@ -13,7 +13,6 @@ use Rattle.pedr_writer.specs.Record.{record_of}
 use Rattle.pedr_writer.specs.Write.{written_said}
 use Rattle.pedr_round_trip.specs.RoundTrip.{counted}
 use Rattle.pedr_round_trip.proofs.ReadBack.{read_back}
-use borrow.Author.Rules.{rules}
 use Rattle.pedr_round_trip.proofs.write_and_read.Goals as goal
 
 pub returns-in-Refused : goal.returns-in-Refused

@@ -7,7 +7,6 @@ use Rattle.pedr_flags.specs.Class.{class_of}
 use Rattle.pedr_flags.specs.Encoder.{encoder_of}
 use Rattle.pedr_flags.specs.Shot.{flags_of}
 use Rattle.pedr_shot.specs.Shot.{shot_of}
-use borrow.Author.Rules.{rules}
 use Rattle.pedr_shot.proofs.read_fields.Goals as goal
 
 pub returns : goal.returns

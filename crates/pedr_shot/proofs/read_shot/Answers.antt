@@ -1,14 +1,13 @@
 -- What is said, by the record's number, and where that is 0 by the answer of the flags.
 use Prim.Native.Nat.{ℕ, ◌≤◌}
-use mathlib.Core.Path.{◌≡◌, sym, ap, ◌∙◌}
+use mathlib.Core.Path.{◌≡◌, sym, ◌∙◌}
 use mathlib.Core.List.{List}
 use Rattle.octets.specs.Refusal.{within, answered}
 use Rattle.octets.proofs.Ladder.{then_fail, then_pass, passed, within_true, say_refused, say_answered, answer_said, refusal_said}
 use Rattle.pedr_flags.specs.declared.ShotFlags.{ShotFlags}
-use Rattle.pedr_flags.specs.Shot.{flags_of, flags_refusal, flags_said, flags_due}
+use Rattle.pedr_flags.specs.Shot.{flags_of, flags_refusal, flags_due}
 use Rattle.pedr_check.specs.Refusal.{record_refusal}
 use Rattle.pedr_shot.specs.Shot.{shot_of, shot_refusal}
-use borrow.Author.Rules.{rules}
 use Rattle.pedr_shot.proofs.read_shot.Goals as goal
 
 -- flags are answered for a shot that is 1 to 20

@@ -1,7 +1,6 @@
 -- What the offer promises is a step.
 use Rattle.reorder_session.specs.Session.{single}
 use Rattle.reorder_histories.proofs.Made.{offer_step}
-use borrow.Author.Rules.{rules}
 use Rattle.reorder_c_steps.proofs.offer_step.Goals as goal
 
 pub returns : goal.returns

@@ -1,6 +1,5 @@
 -- What the opening promises is a start.
 use Rattle.reorder_histories.proofs.Made.{open_start}
-use borrow.Author.Rules.{rules}
 use Rattle.reorder_c_steps.proofs.open_start.Goals as goal
 
 pub returns : goal.returns

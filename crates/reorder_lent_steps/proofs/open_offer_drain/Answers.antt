@@ -1,6 +1,5 @@
 -- The promises of the three calls, one after another.
 use Rattle.reorder_steps.proofs.Steps.{from_none, short}
-use borrow.Author.Rules.{rules}
 use Rattle.reorder_lent_steps.proofs.open_offer_drain.Goals as goal
 
 pub returns : goal.returns

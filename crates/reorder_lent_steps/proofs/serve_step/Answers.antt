@@ -1,7 +1,6 @@
 -- What the serve promises is a step.
 use Rattle.reorder_session.specs.Session.{single}
 use Rattle.reorder_histories.proofs.Made.{serve_step}
-use borrow.Author.Rules.{rules}
 use Rattle.reorder_lent_steps.proofs.serve_step.Goals as goal
 
 pub returns : goal.returns

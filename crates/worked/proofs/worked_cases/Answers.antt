@@ -20,7 +20,6 @@ use Rattle.window.specs.Window.{held_at, some_among, some_held}
 use Rattle.reorder_session.specs.Session.{past_end, broken}
 use Rattle.reorder_rules.specs.Outcome.{refusing}
 use Rattle.reorder_rules.specs.Offer.{position_refusal, admitted}
-use Rattle.reorder_session.specs.Calls.{offer_refusal, offer_due, turn, serve_refusal}
 use Rattle.worked.specs.Cases.{counted, timed_packet, zero_packet, zero_record, quality_record, time_record}
 use Rattle.worked.proofs.worked_cases.Goals as goal
 

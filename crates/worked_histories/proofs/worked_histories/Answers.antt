@@ -22,7 +22,7 @@ use Rattle.reorder_session.specs.declared.Session.{Session}
 use Rattle.reorder_session.specs.Session.{past_end, broken}
 use Rattle.reorder_rules.specs.Outcome.{refusing}
 use Rattle.reorder_rules.specs.Offer.{position_refusal, admitted}
-use Rattle.reorder_session.specs.Calls.{offer_refusal, offer_due, turn, turns, turned_all, serve_refusal, drain_refusal, pass_refusal}
+use Rattle.reorder_session.specs.Calls.{offer_due}
 use Rattle.reorder_offer.specs.Opening.{opened, open_refusal, open_due}
 use Rattle.reorder_rules.specs.Turn.{packet, missing, waiting}
 use Rattle.reorder_histories.specs.History.{Event, took, gave, called_missing, offers}
