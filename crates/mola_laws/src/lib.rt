@@ -1,6 +1,6 @@
 // What C and Rust can rely on: how the structs lie that they share with the exported functions, the refusal that they cannot get, a block's numbers, and what a
-// block of no frame is refused with. A contract may not
-// name how its own crate's structs lie in memory, so that this is a crate above `mola`.
+// block of no frame is refused with. The structs are of several crates
+// below; a program or an export needs none of this, so that it is a crate above `mola`.
 #![tactic(auto)]
 
 ghost use Rattle.mola_laws.specs.BlockFrame.{BlockKept, UnknownFrameRefused};
