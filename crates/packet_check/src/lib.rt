@@ -2,56 +2,56 @@
 #![tactic(auto)]
 
 ghost use Rattle.std.specs.Prelude.{◌≡◌};
+ghost use Rattle.octets.specs.Refusal.{refusal_in};
+ghost use Rattle.refusal.specs.Number.{said};
 ghost use Rattle.packet_check.specs.Header.{header_refusal};
 ghost use Rattle.packet_check.specs.Refusal.{read_refusal};
 
 use packet_layout::{INSTRUMENT, LENGTH, PACKET_SIZE, SEGMENTATION};
+use refusal::Refusal;
 
-// Refusals 3 to 8, or 0.
-fn header_refusal(bytes: &[u8]) -> u8
-    ensures { result ≡ header_refusal bytes.now }
+// Refusals 3 to 8.
+fn check_header(bytes: &[u8]) -> Result<(), Refusal>
+    ensures { refusal_in (said result) ≡ header_refusal bytes.now }
 {
     let id = octets::u16_at(bytes, 0);
     if (id >> 13) % 8 != 0 {
-        return 3;
+        return Err(Refusal::Version);
     }
     if (id >> 12) % 2 != 0 {
-        return 4;
+        return Err(Refusal::Spare);
     }
     if (id >> 11) % 2 != 0 {
-        return 5;
+        return Err(Refusal::Flag);
     }
     if id % 256 != INSTRUMENT {
-        return 6;
+        return Err(Refusal::Instrument);
     }
     if (octets::u16_at(bytes, 2) >> 14) % 4 != SEGMENTATION {
-        return 7;
+        return Err(Refusal::Segmentation);
     }
     if octets::u16_at(bytes, 4) != LENGTH {
-        return 8;
+        return Err(Refusal::Length);
     }
-    0
+    Ok(())
 }
 
-// Refusals 1 to 10, or 0: the check of a packet without its fields. Any bytes, any word.
-pub fn packet_refusal(bytes: &[u8], sum_word: usize) -> u8
-    ensures { result ≡ read_refusal bytes.now sum_word }
+// Refusals 1 to 10: the check of a packet without its fields. Any bytes, any word.
+pub fn check_packet(bytes: &[u8], sum_word: usize) -> Result<(), Refusal>
+    ensures { refusal_in (said result) ≡ read_refusal bytes.now sum_word }
 {
     if bytes.len() != PACKET_SIZE {
-        return 1;
+        return Err(Refusal::PacketSize);
     }
     if !packet_layout::is_sum_word(sum_word) {
-        return 2;
+        return Err(Refusal::SumPlace);
     }
-    let header = header_refusal(bytes);
-    if header != 0 {
-        return header;
-    }
+    check_header(bytes)?;
     if octets::u8_at(bytes, 11) != 0 {
-        return 9;
+        return Err(Refusal::PacketType);
     }
     if checksum::packet_sum(bytes, sum_word) != octets::u16_at(bytes, sum_word * 2) {
-        return 10;
+        return Err(Refusal::Sum);
     }
-    0
+    Ok(())
 }

@@ -1,7 +1,7 @@
 -- Each return is one rung of the ladder, with the words read in place of those of the bytes.
 use Rattle.octets.proofs.Ladder.{rungs}
 use Rattle.packet_check.specs.Header.{header_refusal}
-use Rattle.packet_check.proofs.header_refusal.Goals as goal
+use Rattle.packet_check.proofs.check_header.Goals as goal
 
 pub returns-then-id-ne0 : goal.returns-then-id-ne0
 unfolding header_refusal
