@@ -7,14 +7,10 @@ use native.Mathlib.Omega.{arith}
 use lib.ListN.{length, get_or, take, drop, length-drop, get_or-append}
 use lib.Seq.{drop-cons, take-suc, get_or-drop, get_or-take, get_or_at, length-take-le, ext_get_or}
 use Rattle.octets.specs.Bytes.{nat_at, octets_of, part, Octets}
+pub use Rattle.octets.specs.Word.{octets_length}
 use Rattle.octets.specs.Table.{table, octets_at}
 use Rattle.octets.proofs.Fill.{table_length, table_at}
 use Rattle.octets.proofs.Read.{nat_suc, nat_same}
-
-pub octets_length : (n x : ℕ) → length (octets_of n x) ≡ n
-octets_length zero x = refl
-octets_length (suc zero) x = refl
-octets_length (suc (suc n)) x = ap suc (octets_length (suc n) x)
 
 -- the last byte apart
 octets_last : (n x : ℕ) → octets_of (suc n) x ≡ octets_of n (x / 256) ++ (x % 256 ∷ [])

@@ -10,11 +10,7 @@ use lib.ListN.{length, get_or, get_or-eq_default}
 use Rattle.numbers.specs.Bit.{bit}
 use Rattle.numbers.proofs.Bits.{lt_or_ge, bit_mod, bit_shr}
 use Rattle.octets.specs.Bytes.{nat_at, Octets}
-
--- one byte more
-pub nat_suc : (s : List ℕ) (i n : ℕ) → nat_at s i (suc n) ≡ nat_at s i n * 256 + get_or s (i + n) 0
-nat_suc s i zero = simp add-zero (omega arith)
-nat_suc s i (suc n) = refl
+pub use Rattle.octets.specs.Word.{nat_suc, nat_same}
 
 -- a number of n bytes is below 256^n
 pub nat_lt : (s : List ℕ) (i n : ℕ) → Octets s → nat_at s i n < 256 ^ n
@@ -23,14 +19,6 @@ nat_lt s i (suc n) o =
     let e : 256 ^ suc n ≡ 256 ^ n * 256 = pow-suc 256 n in
     let b : get_or s (i + n) 0 < 256 = o (i + n) in
     rw nat_suc (omega (arith, nat_lt s i n o))
-
--- two places whose n bytes are equal hold the same number
-pub nat_same : (s t : List ℕ) (i j n : ℕ) → ((k : ℕ) → k < n → get_or s (i + k) 0 ≡ get_or t (j + k) 0) → nat_at s i n ≡ nat_at t j n
-nat_same s t i j zero f = refl
-nat_same s t i j (suc n) f =
-    nat_suc s i n
-    ∙ ap₂ (λ (x b : ℕ). x * 256 + b) (nat_same s t i j n (λ k h. f k (omega arith))) (f n (omega arith))
-    ∙ sym (nat_suc t j n)
 
 -- an index past the end may be taken for the end itself
 pub past_end : (s : List ℕ) (i k from : ℕ) → from ≡ min i (length s) → get_or s (from + k) 0 ≡ get_or s (i + k) 0

@@ -1,3 +1,4 @@
 pub mod Bytes
 pub mod Refusal
 pub mod Table
+pub mod Word

@@ -6,6 +6,10 @@ ghost use Rattle.std.specs.Prelude.{◌≡◌, ◌+◌, min, length, get_or};
 ghost use Rattle.octets.specs.Bytes.{nat_at, int_at, signed, put};
 ghost use Rattle.octets.specs.Table.{octets_at};
 
+mod word;
+
+pub use word::Word;
+
 // The byte at index i.
 pub fn u8_at(bytes: &[u8], i: usize) -> u8
     ensures { result ≡ get_or bytes.now i 0 }
