@@ -1,5 +1,5 @@
 -- What holds of numbers of one width in bytes, whatever the width and the sign.
-use Rattle.std.specs.Prelude.{◌≡◌, ℕ, zero, suc, ◌+◌, ◌*◌, ◌<◌, ◌≤◌, List, [], ◌∷◌, ◌++◌, ℤ, map, length, get_or}
+use Rattle.std.specs.Prelude.{◌≡◌, ℕ, zero, suc, ◌+◌, ◌*◌, ◌<◌, List, [], ◌∷◌, ◌++◌, map, length, get_or}
 use Rattle.octets.specs.Bytes.{nat_at, int_at, signed, octets_of, complemented}
 use Rattle.octets.specs.Table.{table, nats_at, ints_at, octets_of_all}
 use Rattle.std.proofs.Common.{refl, sym, ap, ap₂, ◌∙◌, arith, add-zero}

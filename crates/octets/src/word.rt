@@ -4,10 +4,9 @@ ghost use Rattle.std.specs.Prelude.{◌≡◌, ℕ, List, map};
 ghost use Rattle.octets.specs.Bytes.{nat_at, int_at, octets_of, complemented, put};
 ghost use Rattle.octets.specs.Table.{nats_at, ints_at, octets_of_all};
 ghost use Rattle.octets.specs.Word.{WordLaws, nat_laws, int_laws};
-
 ghost use Rattle.std.proofs.Common.{rules};
 
-use crate::{i16_at, i32_at, u16_at, u32_at, u8_at, write_into};
+use crate::{i16_at, i32_at, u8_at, u16_at, u32_at, write_into};
 
 pub trait Word: Copy {
     // Its bytes.
