@@ -7,6 +7,7 @@ use native.Mathlib.Decide.{dec_le}
 use native.Mathlib.Omega.{arith}
 use lib.ListN.{length, get_or, set, take, drop, length-set, length-append, length-drop, drop_of_length-le, take-append-drop}
 use lib.Seq.{sets, sets-eq, set_out, length-sets, take-suc, take_all, length-take-le, take_at, take-append-le, drop_at, drop-append-le, drop-drop}
+use borrow.Rule.Slice.PartMut.{put_mid}
 use Rattle.octets.specs.Bytes.{part, put}
 use Rattle.octets.proofs.Codec.{part_length}
 
@@ -14,6 +15,11 @@ use Rattle.octets.proofs.Codec.{part_length}
 pub put_splice : (s b : List ℕ) (i : ℕ) → i + length b ≤ length s → put s i b ≡ take i s ++ (b ++ drop (i + length b) s)
 unfolding put
 put_splice s b i h = sets-eq b s i h ∙ append_assoc (take i s) b (drop (i + length b) s)
+
+-- a part of the list that holds other bytes afterwards
+pub put_part : (s b : List ℕ) (i n : ℕ) → i + n ≤ length s → length b ≡ n → put_mid i n s b ≡ put s i b
+put_part s b i n h e =
+    ap (λ (r : List ℕ). take i s ++ (b ++ r)) (drop-drop n i s ∙ ap (λ (k : ℕ). drop (i + k) s) (sym e)) ∙ sym (put_splice s b i (omega arith))
 
 pub put_length : (s : List ℕ) (i : ℕ) (b : List ℕ) → length (put s i b) ≡ length s
 unfolding put

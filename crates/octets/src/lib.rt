@@ -8,7 +8,7 @@ ghost use Rattle.octets.specs.Table.{octets_at};
 
 mod word;
 
-pub use word::Word;
+pub use word::{Word, has_run};
 
 // The byte at index i.
 pub fn u8_at(bytes: &[u8], i: usize) -> u8

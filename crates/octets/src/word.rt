@@ -1,6 +1,6 @@
 // Numbers of a fixed width in bytes, for code over the width and the sign.
 
-ghost use Rattle.std.specs.Prelude.{◌≡◌, ℕ, List, map};
+ghost use Rattle.std.specs.Prelude.{◌≡◌, ℕ, ◌+◌, ◌*◌, leb, List, map};
 ghost use Rattle.octets.specs.Bytes.{nat_at, int_at, octets_of, complemented, put};
 ghost use Rattle.octets.specs.Table.{nats_at, ints_at, octets_of_all};
 ghost use Rattle.octets.specs.Word.{WordLaws, nat_laws, int_laws};
@@ -33,6 +33,13 @@ pub trait Word: Copy {
         ensures { out.new ≡ put out.old i (octets self) };
 
     ghost laws: { WordLaws WIDTH at run_at octets run_octets };
+}
+
+// Whether n numbers from index i on lie within so many bytes.
+pub fn has_run<W: Word>(size: usize, i: usize, n: usize) -> bool
+    ensures { result ≡ leb (i + W.WIDTH * n) size }
+{
+    i <= size && n <= (size - i) / W::WIDTH
 }
 
 impl Word for u8 {

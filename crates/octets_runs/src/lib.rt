@@ -1,16 +1,9 @@
 // Runs of numbers in lent bytes, the most significant byte first. Every function takes any slice and any index: a byte past the end is read as 0.
 #![tactic(auto)]
 
-ghost use Rattle.std.specs.Prelude.{◌≡◌, ◌+◌, ◌*◌, ◌<◌, ◌≤◌, leb, length, drop};
+ghost use Rattle.std.specs.Prelude.{◌≡◌, ◌+◌, ◌*◌, ◌<◌, ◌≤◌, length, drop};
 
-use octets::Word;
-
-// Whether n numbers lie within so many bytes from index i on.
-fn has_run<W: Word>(size: usize, i: usize, n: usize) -> bool
-    ensures { result ≡ leb (i + W.WIDTH * n) size }
-{
-    i <= size && n <= (size - i) / W::WIDTH
-}
+use octets::{Word, has_run};
 
 // Fills out with the numbers from index i on, all of which are there.
 fn read_run_within<W: Word>(bytes: &[u8], i: usize, out: &mut [W])
