@@ -5,8 +5,8 @@ use mathlib.Core.Bool.{false, false≢true}
 use lib.Dec.{eqb}
 use borrow.Author.Tests.{eq-eqb}
 use Rattle.std.specs.Prelude.{Result, Ok, Err, IsErr, IsErrAnd}
-use Rattle.octets.specs.Refusal.{refused, refusal_in, ◌then◌}
-use Rattle.octets.proofs.Ladder.{then_fail}
+use Rattle.octets.specs.Refusal.{refused, refusal_in, say, ◌then◌}
+use Rattle.octets.proofs.Ladder.{then_fail, say_refused}
 use Rattle.refusal.specs.declared.Refusal.{Refusal}
 use Rattle.refusal.specs.declared.Refusal.TheVariants.{PacketSize, SumPlace, Version, Spare, Flag, Instrument, Segmentation, Length, PacketType, Sum, RecordSize, QualityCounter, TimeMicros, Latitude, FrameIndex, Shot, FreeField, PacketOutput, Threshold, NoPosition, PositionPastEnd, PositionBelowNext, PositionHeld, PositionTooFar, NextHeld, StoreSize, NextAtEnd, OutputSize, SessionBroken, Budget, Class, RecordOutput, FrameDiffers, RecordField}
 use Rattle.refusal.specs.Number.{number, said}
@@ -59,3 +59,7 @@ pub then_handed_on : {A : Type 0} (r : Result A Refusal) (e : Refusal) (k next :
 then_handed_on r e k next h q =
     let p : refusal_in (said r) ≡ number e = ap refusal_in (handed_on r e h) in
     then_fail k next (refusal_in (said r)) (p ∙ q) (λ z. number_not_0 e (sym p ∙ z))
+
+-- a refusal with a ladder's number is what that ladder says
+pub say_handed_on : {A : Type 0} (r : Result A Refusal) (e : Refusal) (m : ℕ) (a : A) → IsErr r × IsErrAnd r (λ f. f ≡ e) → number e ≡ m → said r ≡ say m a
+say_handed_on r e m a h q = handed_on r e h ∙ say_refused (number e) m a q (number_not_0 e)
