@@ -2,14 +2,15 @@
 #![tactic(auto)]
 
 ghost use Rattle.std.specs.Prelude.{◌≡◌};
-ghost use Rattle.octets.specs.Refusal.{refusal_in};
+ghost use Rattle.refusal.specs.Number.{said};
 ghost use Rattle.packet.specs.Fields.{fields_of, arrays_of, carried_of};
-ghost use Rattle.packet.specs.Read.{packet_said, read_due, read_arrays};
+ghost use Rattle.packet.specs.Read.{read_due, packet_due};
 
 use packet_layout::{
     BINS, CARRIED_AT, COUNTS, HSTART_AT, PACKET_SIZE, READINGS, READINGS_AT, STATUS_AT,
     TEMPERATURES, TEMPERATURES_AT,
 };
+use refusal::Refusal;
 
 // The free fields that are single numbers, laid out as C does.
 #[repr(C)]
@@ -41,17 +42,10 @@ pub struct PacketArrays {
     pub bins: [u8; BINS],
 }
 
-// A refusal with its number, or the fields of an accepted packet.
+// The free fields of an accepted packet.
 #[derive(Clone, Copy)]
-pub enum PacketAnswer {
-    Refused(u8),
-    Accepted(PacketFields),
-}
-
-// The reader's answer, and beside it the arrays, which are all zeros on a refusal.
-#[derive(Clone, Copy)]
-pub struct PacketRead {
-    pub answer: PacketAnswer,
+pub struct Packet {
+    pub fields: PacketFields,
     pub arrays: PacketArrays,
 }
 
@@ -92,45 +86,22 @@ fn read_arrays(bytes: &[u8]) -> PacketArrays
 }
 
 // Reads the single fields of a packet whose sum stands at word sum_word. Any bytes, any word.
-pub fn read_answer(bytes: &[u8], sum_word: usize) -> PacketAnswer
-    ensures { packet_said result ≡ read_due bytes.now sum_word }
+pub fn read_answer(bytes: &[u8], sum_word: usize) -> Result<PacketFields, Refusal>
+    ensures { said result ≡ read_due bytes.now sum_word }
 {
-    let n = packet_check::packet_refusal(bytes, sum_word);
-    if n != 0 {
-        return PacketAnswer::Refused(n);
-    }
-    PacketAnswer::Accepted(read_fields(bytes))
+    packet_check::check_packet(bytes, sum_word)?;
+    Ok(read_fields(bytes))
 }
 
 // Reads a packet, the arrays too.
-pub fn read_packet(bytes: &[u8], sum_word: usize) -> PacketRead
-    ensures { (packet_said result.answer ≡ read_due bytes.now sum_word) × (result.arrays ≡ read_arrays bytes.now sum_word) }
+pub fn read_packet(bytes: &[u8], sum_word: usize) -> Result<Packet, Refusal>
+    ensures { said result ≡ packet_due bytes.now sum_word }
 {
-    let answer = read_answer(bytes, sum_word);
-    let PacketAnswer::Accepted(_) = answer else {
-        return PacketRead {
-            answer,
-            arrays: PacketArrays {
-                temperatures: [0; TEMPERATURES],
-                readings: [0; READINGS],
-                bins: [0; BINS],
-            },
-        };
-    };
-    PacketRead {
-        answer,
+    let fields = read_answer(bytes, sum_word)?;
+    Ok(Packet {
+        fields,
         arrays: read_arrays(bytes),
-    }
-}
-
-// The refusal's number, or 0 for an accepted packet.
-pub fn refusal_number(answer: PacketAnswer) -> u8
-    ensures { result ≡ refusal_in (packet_said answer) }
-{
-    match answer {
-        PacketAnswer::Refused(n) => n,
-        PacketAnswer::Accepted(_) => 0,
-    }
+    })
 }
 
 // The carried bytes of a packet, as a part of its own slice.

@@ -1,24 +1,31 @@
--- The arrays, by what was said.
+-- What was said of the single fields, with the arrays.
 use Prim.Native.Nat.{ℕ}
-use mathlib.Core.Path.{◌≡◌, sym, ◌∙◌}
+use mathlib.Core.Path.{◌≡◌}
 use mathlib.Core.List.{List}
 use Rattle.octets.specs.Refusal.{refused, answered}
-use Rattle.octets.proofs.Ladder.{answer_said, refusal_said, after_refused, after_done}
+use Rattle.octets.proofs.Ladder.{answer_said, refusal_said, say_answered}
+use Rattle.refusal.specs.Number.{number}
+use Rattle.refusal.proofs.Said.{say_handed_on}
 use Rattle.packet_check.specs.Refusal.{read_refusal}
-use Rattle.packet.specs.Fields.{fields_of, arrays_of, no_arrays}
-use Rattle.packet.specs.Read.{read_due, read_arrays}
+use Rattle.packet.specs.Fields.{fields_of, arrays_of}
+use Rattle.packet.specs.Read.{read_due, packet_due}
 use Rattle.packet.specs.declared.PacketFields.{PacketFields}
 use Rattle.packet.specs.declared.PacketArrays.{PacketArrays}
 use Rattle.packet.proofs.read_packet.Goals as goal
 
-none : (s : List ℕ) (word n : ℕ) → refused n ≡ read_due s word → no_arrays ≡ read_arrays s word
-none s word n e = let r = refusal_said n (read_refusal s word) (fields_of s) e in after_refused n _ (arrays_of s) no_arrays r.0 (λ z. r.1 (sym r.0 ∙ z))
+pub returns-in_err-fields : goal.returns-in_err-fields
+returns-in_err-fields c =
+    let bs = c.args.bytes.now in
+    let e : refused (number c.in_err-fields.field-0.0) ≡ read_due bs c.args.sum_word = c.in_err-fields.ensures in
+    let r = refusal_said _ (read_refusal bs c.args.sum_word) (fields_of bs) e in
+    say_handed_on _ _ _ (record { fields = fields_of bs; arrays = arrays_of bs }) c.from_residual.ensures r.0
 
-all : (s : List ℕ) (word : ℕ) (f : PacketFields) (a : PacketArrays) → answered f ≡ read_due s word → a ≡ arrays_of s → a ≡ read_arrays s word
-all s word f a e q = let r = answer_said (read_refusal s word) (fields_of s) f e in after_done _ (arrays_of s) no_arrays a r.0 q
-
-pub returns-in_default : goal.returns-in_default
-returns-in_default c = (c.read_answer-answer.ensures, none _ _ _ c.in_default.ensures)
+all : (bs : List ℕ) (word : ℕ) (f : PacketFields) (a : PacketArrays) → answered f ≡ read_due bs word → a ≡ arrays_of bs → answered (record { fields = f; arrays = a }) ≡ packet_due bs word
+all bs word f a e q =
+    let r = answer_said (read_refusal bs word) (fields_of bs) f e in
+    say_answered _ _ _ r.0 (λ i. record { fields = r.1 i; arrays = q i })
 
 pub returns : goal.returns
-returns c = (c.read_answer-answer.ensures, all _ _ _ _ c.in-Accepted.ensures c.read_arrays.ensures)
+returns c =
+    let e : answered c.in_ok-fields.fields ≡ read_due c.args.bytes.now c.args.sum_word = c.in_ok-fields.ensures in
+    all _ _ _ _ e c.read_arrays.ensures
