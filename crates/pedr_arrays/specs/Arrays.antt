@@ -3,26 +3,19 @@ use Rattle.std.specs.Prelude.{ℕ, List, false, pos, replicate}
 use Rattle.octets.specs.Table.{table}
 use Rattle.layout.specs.Column.{item, values}
 use Rattle.pedr_layout.specs.Layout as columns
-use Rattle.pedr_flags.specs.Class.{class_of, class_number}
+use Rattle.pedr_flags.specs.Class.{class_of}
 use Rattle.pedr_flags.specs.Encoder.{encoder_of}
 use Rattle.pedr_flags.specs.Descriptor.{all_failures_of}
+use Rattle.pedr_flags.specs.declared.Class.{Class}
 use Rattle.pedr_flags.specs.declared.Encoder.{Encoder}
 use Rattle.pedr_flags.specs.declared.ShotFailures.{ShotFailures}
-use Rattle.pedr_arrays.specs.declared.ShotClass.{ShotClass}
 use Rattle.pedr_arrays.specs.declared.ShotArrays.{ShotArrays}
 use Rattle.pedr_arrays.specs.declared.ChannelArrays.{ChannelArrays}
 use Rattle.pedr_arrays.specs.declared.RecordArrays.{RecordArrays}
 
 -- the 20 classes and encoder bits; shot s stands at index s - 1
-abbrev pub shot_class : ℕ → ShotClass
-shot_class n = record { class = class_of n }
-
--- the number of a shot's class
-abbrev pub shot_class_number : ShotClass → ℕ
-shot_class_number c = class_number c.class
-
-unfoldable pub classes_of : List ℕ → List ShotClass
-classes_of s = table columns.shot_count (λ k. shot_class (item s columns.class k))
+unfoldable pub classes_of : List ℕ → List Class
+classes_of s = table columns.shot_count (λ k. class_of (item s columns.class k))
 
 unfoldable pub encoders_of : List ℕ → List Encoder
 encoders_of s = table columns.shot_count (λ k. encoder_of (item s columns.encoder k))
@@ -70,7 +63,7 @@ no_shot_arrays =
       pulse_width = replicate columns.shot_count 0;
       optical_width = replicate columns.shot_count 0;
       laser_power = replicate columns.shot_count 0;
-      class = replicate columns.shot_count (shot_class 0);
+      class = replicate columns.shot_count (class_of 0);
       encoder = replicate columns.shot_count (encoder_of 0);
       failures = replicate columns.shot_count no_failures;
     }

@@ -15,12 +15,6 @@ use pedr_layout::{
     UNINTERPRETED_641_AT, UNINTERPRETED_BEFORE,
 };
 
-// The class of one shot. A struct's array may hold structs, not enums.
-#[derive(Clone, Copy)]
-pub struct ShotClass {
-    pub class: Class,
-}
-
 // The columns of 20 shots; shot s stands at index s - 1.
 #[derive(Clone, Copy)]
 pub struct ShotArrays {
@@ -31,7 +25,7 @@ pub struct ShotArrays {
     pub pulse_width: [u16; SHOTS],
     pub optical_width: [u16; SHOTS],
     pub laser_power: [u16; SHOTS],
-    pub class: [ShotClass; SHOTS],
+    pub class: [Class; SHOTS],
     pub encoder: [Encoder; SHOTS],
     pub failures: [ShotFailures; SHOTS],
 }
@@ -77,16 +71,13 @@ fn read_u8x20(bytes: &[u8], i: usize) -> [u8; SHOTS]
     numbers
 }
 
-fn read_classes(bytes: &[u8]) -> [ShotClass; SHOTS]
+fn read_classes(bytes: &[u8]) -> [Class; SHOTS]
     ensures { result ≡ classes_of bytes.now }
 {
-    let mut classes = [ShotClass {
-        class: Class::NoTrigger,
-    }; SHOTS];
+    let mut classes = [Class::NoTrigger; SHOTS];
     let mut k = 0;
     while k < SHOTS {
-        let class = pedr_flags::class_of(octets::u16_at(bytes, CLASS_AT + 2 * k));
-        classes[k] = ShotClass { class };
+        classes[k] = Class::from(octets::u16_at(bytes, CLASS_AT + 2 * k));
         k = k + 1;
     }
     classes
@@ -103,7 +94,7 @@ fn read_encoders(bytes: &[u8]) -> [Encoder; SHOTS]
     }; SHOTS];
     let mut k = 0;
     while k < SHOTS {
-        encoders[k] = pedr_flags::encoder_of(octets::u8_at(bytes, ENCODER_AT + k));
+        encoders[k] = Encoder::from(octets::u8_at(bytes, ENCODER_AT + k));
         k = k + 1;
     }
     encoders
@@ -210,9 +201,7 @@ pub fn no_arrays() -> RecordArrays
         pulse_width: [0; SHOTS],
         optical_width: [0; SHOTS],
         laser_power: [0; SHOTS],
-        class: [ShotClass {
-            class: Class::NoTrigger,
-        }; SHOTS],
+        class: [Class::NoTrigger; SHOTS],
         encoder: [Encoder {
             start: 0,
             carried_low: 0,

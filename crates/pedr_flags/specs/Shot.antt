@@ -1,13 +1,11 @@
 -- Document 01: 16 for a shot that is not 1 to 20, else the quality bit and the tests of one shot.
 use Rattle.std.specs.Prelude.{ℕ, List}
-use Rattle.octets.specs.Refusal.{refuse◌unless◌else◌, within, Said, refused, answered, say}
+use Rattle.octets.specs.Refusal.{refuse◌unless◌else◌, within, Said, say}
 use Rattle.layout.specs.Column.{value}
 use Rattle.pedr_layout.specs.Layout.{shot_count, quality_number}
 use Rattle.pedr_flags.specs.Quality.{good_shot}
 use Rattle.pedr_flags.specs.Descriptor.{failures_of}
 use Rattle.pedr_flags.specs.declared.ShotFlags.{ShotFlags}
-use Rattle.pedr_flags.specs.declared.ShotFlagsAnswer.{ShotFlagsAnswer}
-use Rattle.pedr_flags.specs.declared.ShotFlagsAnswer.TheVariants.{Refused, Accepted}
 
 -- the flags of shot k, which is 1 to 20
 unfoldable pub flags_of : List ℕ → ℕ → ShotFlags
@@ -16,11 +14,6 @@ flags_of s k = record { good = good_shot (value s quality_number) k; failures = 
 -- 16: shot not 1 to 20
 abbrev pub flags_refusal : ℕ → ℕ
 flags_refusal k = refuse 16 unless within 1 shot_count k else 0
-
--- the number, or the flags, that each case of the answer stands for
-abbrev pub flags_said : ShotFlagsAnswer → Said ShotFlags
-flags_said (Refused n) = refused n
-flags_said (Accepted f) = answered f
 
 -- what is due of the flags of a shot
 abbrev pub flags_due : List ℕ → ℕ → Said ShotFlags

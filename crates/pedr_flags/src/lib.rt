@@ -4,14 +4,16 @@
 ghost use Rattle.std.specs.Prelude.{◌≡◌, ◌<◌, ◌≤◌, eqb};
 ghost use Rattle.numbers.specs.Bit.{bit};
 ghost use Rattle.octets.specs.Bytes.{nat_at};
+ghost use Rattle.refusal.specs.Number.{said};
 ghost use Rattle.pedr_layout.specs.Layout.{shot_count};
 ghost use Rattle.pedr_flags.specs.Quality.{good_shot, good_count, quality_of};
 ghost use Rattle.pedr_flags.specs.Descriptor.{failed, descriptor_of, failures_of, all_failures_of};
-ghost use Rattle.pedr_flags.specs.Shot.{flags_said, flags_due};
+ghost use Rattle.pedr_flags.specs.Shot.{flags_due};
 ghost use Rattle.pedr_flags.specs.Class.{class_of, class_number};
 ghost use Rattle.pedr_flags.specs.Encoder.{encoder_of};
 
 use pedr_layout::{QUALITY_COUNTER_AT, QUALITY_NUMBER_AT, SHOTS};
+use refusal::Refusal;
 
 // Bits 0 to 19 of the quality number, of which bit 20 - s is set for a good shot s; its bits 20 to 23, carried; the counter.
 #[repr(C)]
@@ -49,13 +51,6 @@ pub struct ShotFailures {
 pub struct ShotFlags {
     pub good: bool,
     pub failures: ShotFailures,
-}
-
-// A refusal with its number, or the shot's flags.
-#[derive(Clone, Copy)]
-pub enum ShotFlagsAnswer {
-    Refused(u8),
-    Accepted(ShotFlags),
 }
 
 // What a shot met: false or no trigger (0), probable ground (1), or a number that is not assigned.
@@ -183,53 +178,51 @@ pub fn read_all_failures(bytes: &[u8]) -> [ShotFailures; SHOTS]
 }
 
 // Reads the flags of one shot. Any bytes, any shot; 16 is the only refusal.
-pub fn read_shot_flags(bytes: &[u8], shot: usize) -> ShotFlagsAnswer
-    ensures { flags_said result ≡ flags_due bytes.now shot }
+pub fn read_shot_flags(bytes: &[u8], shot: usize) -> Result<ShotFlags, Refusal>
+    ensures { said result ≡ flags_due bytes.now shot }
 {
-    if shot < 1 {
-        return ShotFlagsAnswer::Refused(16);
+    if !(1..=SHOTS).contains(&shot) {
+        return Err(Refusal::Shot);
     }
-    if SHOTS < shot {
-        return ShotFlagsAnswer::Refused(16);
-    }
-    ShotFlagsAnswer::Accepted(ShotFlags {
+    Ok(ShotFlags {
         good: is_good(octets::u24_at(bytes, QUALITY_NUMBER_AT), shot),
         failures: read_failures(bytes, shot),
     })
 }
 
-// The class of a number.
-pub fn class_of(number: u16) -> Class
-    ensures { result ≡ class_of number }
-{
-    if number == 0 {
-        return Class::NoTrigger;
-    }
-    if number == 1 {
-        return Class::ProbableGround;
-    }
-    Class::Unassigned(number)
-}
+impl From<u16> for Class {
+    ghost from_gives = { λ number class. class ≡ class_of number };
 
-// The number of a class.
-pub fn class_number(class: Class) -> u16
-    ensures { result ≡ class_number class }
-{
-    match class {
-        Class::NoTrigger => 0,
-        Class::ProbableGround => 1,
-        Class::Unassigned(number) => number,
+    fn from(number: u16) -> Class {
+        match number {
+            0 => Class::NoTrigger,
+            1 => Class::ProbableGround,
+            _ => Class::Unassigned(number),
+        }
     }
 }
 
-// The encoder bits of a byte.
-pub fn encoder_of(byte: u8) -> Encoder
-    ensures { result ≡ encoder_of byte }
-{
-    Encoder {
-        start: byte & 3,
-        carried_low: (byte >> 2) & 3,
-        stop: (byte >> 4) & 3,
-        carried_high: (byte >> 6) & 3,
+impl From<Class> for u16 {
+    ghost from_gives = { λ class number. number ≡ class_number class };
+
+    fn from(class: Class) -> u16 {
+        match class {
+            Class::NoTrigger => 0,
+            Class::ProbableGround => 1,
+            Class::Unassigned(number) => number,
+        }
+    }
+}
+
+impl From<u8> for Encoder {
+    ghost from_gives = { λ byte encoder. encoder ≡ encoder_of byte };
+
+    fn from(byte: u8) -> Encoder {
+        Encoder {
+            start: byte & 3,
+            carried_low: (byte >> 2) & 3,
+            stop: (byte >> 4) & 3,
+            carried_high: (byte >> 6) & 3,
+        }
     }
 }

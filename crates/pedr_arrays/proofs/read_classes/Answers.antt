@@ -32,7 +32,7 @@ pub loop-k-preserved : goal.loop-k-preserved
 loop-k-preserved c =
     let l = c.loop-k in
     let s = c.args.bytes.now in
-    fill_more (class_at s) _ l.classes l.k _ c.loop-k-test.true (λ i. record { class = (c.class_of-class.ensures ∙ ap class_of c.u16_at.ensures) i }) l.invariant
+    fill_more (class_at s) _ l.classes l.k _ c.loop-k-test.true (c.from.ensures ∙ ap class_of c.u16_at.ensures) l.invariant
 
 pub returns : goal.returns
 unfolding classes_of

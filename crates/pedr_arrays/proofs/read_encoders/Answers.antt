@@ -32,7 +32,7 @@ pub loop-k-preserved : goal.loop-k-preserved
 loop-k-preserved c =
     let l = c.loop-k in
     let s = c.args.bytes.now in
-    fill_more (encoder_at s) _ l.encoders l.k _ c.loop-k-test.true (c.encoder_of.ensures ∙ ap (λ (b : ℕ). encoder_of b) (c.u8_at.ensures ∙ ap (λ (j : ℕ). get_or s (620 + j) 0) (sym (one-mul l.k)))) l.invariant
+    fill_more (encoder_at s) _ l.encoders l.k _ c.loop-k-test.true (c.from.ensures ∙ ap (λ (b : ℕ). encoder_of b) (c.u8_at.ensures ∙ ap (λ (j : ℕ). get_or s (620 + j) 0) (sym (one-mul l.k)))) l.invariant
 
 pub returns : goal.returns
 unfolding encoders_of

@@ -2,12 +2,14 @@
 use mathlib.Core.Path.{◌≡◌, sym, ap, ◌∙◌}
 use mir.Syntax.{w32}
 use Rattle.numbers.proofs.Ranges.{held}
+use Rattle.octets.specs.Refusal.{refusal_in}
 use Rattle.octets.proofs.Ladder.{rungs}
+use Rattle.refusal.specs.Number.{said}
 use Rattle.layout.specs.Column.{value}
 use Rattle.pedr_layout.specs.Layout.{quality_number, quality_counter, time_micros, latitude, frame_index}
 use Rattle.pedr_flags.specs.Quality.{good_count}
 use Rattle.pedr_check.specs.Refusal.{values_refusal, record_refusal}
-use Rattle.pedr_check.proofs.record_refusal.Goals as goal
+use Rattle.pedr_check.proofs.check_record.Goals as goal
 
 pub returns-then-bytes-ne-RECORD_SIZE : goal.returns-then-bytes-ne-RECORD_SIZE
 unfolding record_refusal
@@ -35,6 +37,6 @@ returns c =
     let lat = c.i32_at-latitude in
     let m = held w32 micros.type_inv micros.ensures in
     let l = held w32 lat.type_inv lat.ensures in
-    let v : c.values_refusal.result ≡ values_refusal (value s time_micros) (value s latitude) (value s frame_index) =
-    c.values_refusal.ensures ∙ (λ i. values_refusal (m i) (l i) (c.u16_at.ensures i)) in
+    let v : refusal_in (said c.check_values.result) ≡ values_refusal (value s time_micros) (value s latitude) (value s frame_index) =
+    c.check_values.ensures ∙ (λ i. values_refusal (m i) (l i) (c.u16_at.ensures i)) in
     search rungs depth 10
