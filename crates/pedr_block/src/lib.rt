@@ -9,7 +9,7 @@ use pedr_layout::{CARRIED_MOST, FRAME_INDEX_AT};
 
 // Frame 1: temperatures.
 #[repr(C)]
-#[derive(Clone, Copy)]
+#[derive(Clone, Copy, Default)]
 pub struct Frame1Fields {
     pub computer_memory_temperature: i16,
     pub computer_cpu_temperature: i16,
@@ -29,7 +29,7 @@ pub struct Frame1Fields {
 
 // Frame 2: two temperatures, voltages and currents.
 #[repr(C)]
-#[derive(Clone, Copy)]
+#[derive(Clone, Copy, Default)]
 pub struct Frame2Fields {
     pub electronics_box_top_sc_thrmstr: i16,
     pub laser_case_hot_foot_temp: i16,
@@ -49,7 +49,7 @@ pub struct Frame2Fields {
 
 // Frame 3: currents, the instrument's status and software.
 #[repr(C)]
-#[derive(Clone, Copy)]
+#[derive(Clone, Copy, Default)]
 pub struct Frame3Fields {
     pub minus_5_volt_current_monitor: u16,
     pub plus_5_volt_current_monitor: u16,
@@ -65,12 +65,12 @@ pub struct Frame3Fields {
 
 // Frame 4: no single field: the range gate tracker's array fills it.
 #[repr(C)]
-#[derive(Clone, Copy)]
+#[derive(Clone, Copy, Default)]
 pub struct Frame4Fields {}
 
 // Frame 5: HSTART for the histogram dump, commands received.
 #[repr(C)]
-#[derive(Clone, Copy)]
+#[derive(Clone, Copy, Default)]
 pub struct Frame5Fields {
     pub hstart_value_histogram_dump: u32,
     pub valid_commands_received_count: u16,
@@ -78,14 +78,14 @@ pub struct Frame5Fields {
 
 // Frame 6: the packet's checksum.
 #[repr(C)]
-#[derive(Clone, Copy)]
+#[derive(Clone, Copy, Default)]
 pub struct Frame6Fields {
     pub packet_validity_checksum: u16,
 }
 
 // Frame 7: the optical test shot, the packet's type, the Sun.
 #[repr(C)]
-#[derive(Clone, Copy)]
+#[derive(Clone, Copy, Default)]
 pub struct Frame7Fields {
     pub ots_range: u32,
     pub first_ch_received_energy: u32,
