@@ -14,7 +14,7 @@ use refusal::Refusal;
 
 // The free fields that are single numbers, laid out as C does.
 #[repr(C)]
-#[derive(Clone, Copy)]
+#[derive(Clone, Copy, Default)]
 pub struct PacketFields {
     pub error_status: u8,
     pub count: u16,
@@ -35,7 +35,7 @@ pub struct PacketFields {
 
 // The free fields that are arrays; the bins in bin order.
 #[repr(C)]
-#[derive(Clone, Copy)]
+#[derive(Clone, Copy, Default)]
 pub struct PacketArrays {
     pub temperatures: [u8; TEMPERATURES],
     pub readings: [u8; READINGS],

@@ -32,7 +32,7 @@ pub struct ShotArrays {
 
 // The columns of the 4 channels, in the first half of the frame and then in the second.
 #[repr(C)]
-#[derive(Clone, Copy)]
+#[derive(Clone, Copy, Default)]
 pub struct ChannelArrays {
     pub noise: [u32; 8],
     pub thresholds: [u16; 8],

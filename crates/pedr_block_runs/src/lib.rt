@@ -10,7 +10,7 @@ use pedr_layout::{CARRIED_MOST, FRAME_INDEX_AT};
 
 // The runs of items, each number as it stands in the record. What the frame lacks, whole runs and the items behind its own, is zeros.
 #[repr(C)]
-#[derive(Clone, Copy)]
+#[derive(Clone, Copy, Default)]
 pub struct BlockRuns {
     pub status_flags: [u16; 2],
     pub range_gate_tracker_array: [u16; 14],

@@ -1,3 +1,4 @@
+pub mod Zeros
 pub mod Classes
 pub mod Refused
 pub mod Back

@@ -17,7 +17,7 @@ use pedr_layout::{CARRIED_MOST, CLASS_AT, SHOTS, UNINTERPRETED};
 
 // The columns of 20 shots, a class by its number; shot s stands at index s - 1.
 #[repr(C)]
-#[derive(Clone, Copy)]
+#[derive(Clone, Copy, Default)]
 pub struct ShotNumbers {
     pub radius: [u32; SHOTS],
     pub energy: [u16; SHOTS],
@@ -33,7 +33,7 @@ pub struct ShotNumbers {
 
 // The columns of several numbers.
 #[repr(C)]
-#[derive(Clone, Copy)]
+#[derive(Clone, Copy, Default)]
 pub struct ArrayNumbers {
     pub shots: ShotNumbers,
     pub channels: ChannelArrays,
@@ -43,7 +43,7 @@ pub struct ArrayNumbers {
 
 // A record's refusal number and zeros; or 0 and what the record holds.
 #[repr(C)]
-#[derive(Clone, Copy)]
+#[derive(Clone, Copy, Default)]
 pub struct RecordNumbers {
     pub refusal: u32,
     pub fields: RecordFields,
@@ -107,116 +107,16 @@ fn read_arrays(bytes: &[u8]) -> ArrayNumbers
     }
 }
 
-fn no_position() -> OrbitPosition
-    ensures { result ≡ no_position }
-{
-    OrbitPosition {
-        orbit: 0,
-        latitude: 0,
-        longitude: 0,
-        radial_distance: 0,
-        ground_latitude: 0,
-        ground_longitude: 0,
-    }
-}
-
-fn no_descriptor() -> Descriptor
-    ensures { result ≡ no_descriptor }
-{
-    Descriptor {
-        packet_sum: false,
-        software_sum: false,
-        mode: false,
-        ots: false,
-        carried: 0,
-    }
-}
-
-fn no_receiver() -> Receiver
-    ensures { result ≡ no_receiver }
-{
-    Receiver {
-        channel_mask: 0,
-        minimum_hits: 0,
-        hit_count: 0,
-        frame_counter: 0,
-        trigger: 0,
-        frame_index: 0,
-    }
-}
-
-// Written out: as the fields read of no bytes they would have the compiler call the reading of fields, not inline it in the read of a record.
 fn no_fields() -> RecordFields
     ensures { result ≡ no_fields }
 {
-    RecordFields {
-        time: FrameTime {
-            whole: 0,
-            micros: 0,
-        },
-        position: no_position(),
-        quality: Quality {
-            good: 0,
-            carried: 0,
-            counter: 0,
-        },
-        descriptor: no_descriptor(),
-        pointing: Pointing {
-            right_ascension: 0,
-            declination: 0,
-            twist: 0,
-        },
-        ranges: Ranges {
-            mid_point_range: 0,
-            frame_radius: 0,
-            delay: 0,
-            width: 0,
-        },
-        receiver: no_receiver(),
-        link: PacketLink {
-            seconds: 0,
-            millis: 0,
-            fine_time: 0,
-        },
-    }
+    RecordFields::default()
 }
 
 fn no_arrays() -> ArrayNumbers
     ensures { result ≡ no_numbers }
 {
-    let shots = ShotNumbers {
-        radius: [0; SHOTS],
-        energy: [0; SHOTS],
-        reflectivity: [0; SHOTS],
-        trigger_channel: [0; SHOTS],
-        pulse_width: [0; SHOTS],
-        optical_width: [0; SHOTS],
-        laser_power: [0; SHOTS],
-        class_number: [0; SHOTS],
-        encoder: [Encoder {
-            start: 0,
-            carried_low: 0,
-            stop: 0,
-            carried_high: 0,
-        }; SHOTS],
-        failures: [ShotFailures {
-            power: false,
-            energy: false,
-            range: false,
-            window: false,
-            comparison: false,
-        }; SHOTS],
-    };
-    let channels = ChannelArrays {
-        noise: [0; 8],
-        thresholds: [0; 8],
-    };
-    ArrayNumbers {
-        shots,
-        channels,
-        xyz: [0; 3],
-        source_header: [0; 2],
-    }
+    ArrayNumbers::default()
 }
 
 // The numbers of a refused record.

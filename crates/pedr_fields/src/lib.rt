@@ -10,7 +10,7 @@ use pedr_layout::{FRAME_INDEX_AT, LATITUDE_AT, TIME_MICROS_AT};
 
 // The frame's mid-point, in seconds and microseconds since J2000; either may be negative.
 #[repr(C)]
-#[derive(Clone, Copy)]
+#[derive(Clone, Copy, Default)]
 pub struct FrameTime {
     pub whole: i32,
     pub micros: i32,
@@ -18,7 +18,7 @@ pub struct FrameTime {
 
 // The orbit, where the spacecraft is, and where the frame's mid-point meets the ground.
 #[repr(C)]
-#[derive(Clone, Copy)]
+#[derive(Clone, Copy, Default)]
 pub struct OrbitPosition {
     pub orbit: u32,
     pub latitude: i32,
@@ -30,7 +30,7 @@ pub struct OrbitPosition {
 
 // Where the instrument points.
 #[repr(C)]
-#[derive(Clone, Copy)]
+#[derive(Clone, Copy, Default)]
 pub struct Pointing {
     pub right_ascension: i32,
     pub declination: i32,
@@ -39,7 +39,7 @@ pub struct Pointing {
 
 // The frame's range and radius, and the range gate.
 #[repr(C)]
-#[derive(Clone, Copy)]
+#[derive(Clone, Copy, Default)]
 pub struct Ranges {
     pub mid_point_range: u32,
     pub frame_radius: u32,
@@ -49,7 +49,7 @@ pub struct Ranges {
 
 // The receiver and its tracking algorithm.
 #[repr(C)]
-#[derive(Clone, Copy)]
+#[derive(Clone, Copy, Default)]
 pub struct Receiver {
     pub channel_mask: u16,
     pub minimum_hits: u16,
@@ -61,7 +61,7 @@ pub struct Receiver {
 
 // The time of the packet that the frame came in.
 #[repr(C)]
-#[derive(Clone, Copy)]
+#[derive(Clone, Copy, Default)]
 pub struct PacketLink {
     pub seconds: i32,
     pub millis: i16,
@@ -70,7 +70,7 @@ pub struct PacketLink {
 
 // The columns that are single numbers.
 #[repr(C)]
-#[derive(Clone, Copy)]
+#[derive(Clone, Copy, Default)]
 pub struct RecordFields {
     pub time: FrameTime,
     pub position: OrbitPosition,

@@ -17,7 +17,7 @@ use refusal::Refusal;
 
 // Bits 0 to 19 of the quality number, of which bit 20 - s is set for a good shot s; its bits 20 to 23, carried; the counter.
 #[repr(C)]
-#[derive(Clone, Copy)]
+#[derive(Clone, Copy, Default)]
 pub struct Quality {
     pub good: u32,
     pub carried: u8,
@@ -26,7 +26,7 @@ pub struct Quality {
 
 // The tests of the packet and frame, each true where it failed; bits 104 to 127 of the descriptor, carried.
 #[repr(C)]
-#[derive(Clone, Copy)]
+#[derive(Clone, Copy, Default)]
 pub struct Descriptor {
     pub packet_sum: bool,
     pub software_sum: bool,
@@ -37,7 +37,7 @@ pub struct Descriptor {
 
 // The tests of one shot, each true where it failed.
 #[repr(C)]
-#[derive(Clone, Copy)]
+#[derive(Clone, Copy, Default)]
 pub struct ShotFailures {
     pub power: bool,
     pub energy: bool,
@@ -63,7 +63,7 @@ pub enum Class {
 
 // The two encoders' bits, with bits 2-3 and 6-7 of the byte, carried.
 #[repr(C)]
-#[derive(Clone, Copy)]
+#[derive(Clone, Copy, Default)]
 pub struct Encoder {
     pub start: u8,
     pub carried_low: u8,

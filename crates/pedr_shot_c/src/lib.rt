@@ -10,7 +10,7 @@ use pedr_shot::{ShotAnswer, ShotFields};
 
 // A shot's value of each column of 20, its class by its number, whether it is good, and the tests that it failed.
 #[repr(C)]
-#[derive(Clone, Copy)]
+#[derive(Clone, Copy, Default)]
 pub struct OneShot {
     pub radius: u32,
     pub energy: u16,
@@ -36,30 +36,7 @@ pub struct ShotRead {
 fn no_shot() -> OneShot
     ensures { result ≡ no_shot }
 {
-    OneShot {
-        radius: 0,
-        energy: 0,
-        reflectivity: 0,
-        trigger_channel: 0,
-        pulse_width: 0,
-        optical_width: 0,
-        laser_power: 0,
-        class_number: 0,
-        encoder: Encoder {
-            start: 0,
-            carried_low: 0,
-            stop: 0,
-            carried_high: 0,
-        },
-        good: false,
-        failures: ShotFailures {
-            power: false,
-            energy: false,
-            range: false,
-            window: false,
-            comparison: false,
-        },
-    }
+    OneShot::default()
 }
 
 fn one_shot(fields: ShotFields) -> OneShot
