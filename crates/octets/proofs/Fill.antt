@@ -1,11 +1,12 @@
 -- A list filled from the front by a loop, one element a turn, until it is a table: one law for every element type, length and rule.
-use Prim.Native.Nat.{ℕ, zero, suc, ◌+◌, ◌<◌, ◌≤◌}
+use Prim.Native.Nat.{ℕ, zero, suc, ◌+◌, ◌-◌, ◌<◌, ◌≤◌}
 use mathlib.Core.Path.{◌≡◌, refl, sym, ap, ◌∙◌}
-use mathlib.Core.List.{List, [], ◌∷◌, map}
+use mathlib.Core.List.{List, [], ◌∷◌, ◌++◌, map, append-nil}
 use native.Mathlib.Nat.{not-suc-le-zero, le_of_suc-le-suc, one-mul}
 use native.Mathlib.Numerals.{add-one}
 use native.Mathlib.Omega.{arith}
-use lib.ListN.{length, get_or, set}
+use lib.ListN.{length, get_or, set, take, drop, replicate}
+use lib.Seq.{get_or-drop, take_all}
 use Rattle.octets.specs.Table.{table, octets_at, nats_at}
 
 -- the first j elements of the table of f, then the elements of d
@@ -82,6 +83,12 @@ pub map_table : {A B : Type 0} (g : A → B) (n : ℕ) (f : ℕ → A) → map g
 map_table g zero f = refl
 map_table {A} {B} g (suc n) f = ap (λ (l : List B). g (f 0) ∷ l) (map_table g n (λ k. f (suc k)))
 
+-- a shorter table of the same rule
+pub table_front : {A : Type 0} (m n : ℕ) (f : ℕ → A) → m ≤ n → table m f ≡ take m (table n f)
+table_front zero n f h = refl
+table_front (suc m) zero f h = absurd (not-suc-le-zero h)
+table_front {A} (suc m) (suc n) f h = ap (λ (l : List A). f 0 ∷ l) (table_front m n (λ k. f (suc k)) (le_of_suc-le-suc h))
+
 -- the bytes from an index on: how many, and each
 pub octets_count : (s : List ℕ) (i n : ℕ) → length (octets_at s i n) ≡ n
 unfolding octets_at
@@ -90,6 +97,38 @@ octets_count s i n = table_length n (λ k. get_or s (i + k) 0)
 pub octets_at_lem : (s : List ℕ) (i n k : ℕ) → k < n → get_or (octets_at s i n) k 0 ≡ get_or s (i + k) 0
 unfolding octets_at
 octets_at_lem s i n k h = table_at n (λ k. get_or s (i + k) 0) k 0 h
+
+zeros : (n : ℕ) → table {A = ℕ} n (λ k. 0) ≡ replicate n 0
+zeros zero = refl
+zeros (suc n) = ap (λ (l : List ℕ). 0 ∷ l) (zeros n)
+
+-- the first n elements of a list, and zeros for those that it lacks
+padded : (n : ℕ) (r : List ℕ) → table n (λ k. get_or r k 0) ≡ take n r ++ replicate (n - length r) 0
+padded zero r = let e : 0 - length r ≡ 0 = omega arith in rw e refl
+padded (suc n) [] = let e : suc n - 0 ≡ suc n = omega arith in rw e (zeros (suc n))
+padded (suc n) (x ∷ r) =
+    let e : suc n - suc (length r) ≡ n - length r = omega arith in
+    rw e (ap (λ (l : List ℕ). x ∷ l) (padded n r))
+
+rest_padded : (s : List ℕ) (i n : ℕ) → octets_at s i n ≡ take n (drop i s) ++ replicate (n - length (drop i s)) 0
+unfolding octets_at
+rest_padded s i n = table_same n _ _ (λ k. sym (get_or-drop i s k 0)) ∙ padded n (drop i s)
+
+-- the bytes from an index on, of those that are there and of those and zeros
+module _ (s rest : List ℕ) (i n : ℕ) (e : rest ≡ drop i s) where
+  whole : take n rest ++ replicate (n - length rest) 0 ≡ octets_at s i n
+  whole = ap (λ (r : List ℕ). take n r ++ replicate (n - length r) 0) e ∙ sym (rest_padded s i n)
+
+  pub rest_within : n ≤ length rest → take n rest ≡ octets_at s i n
+  rest_within h = let z : n - length rest ≡ 0 = omega arith in sym (append-nil (take n rest)) ∙ ap (λ (m : ℕ). take n rest ++ replicate m 0) (sym z) ∙ whole
+
+  pub rest_past : length rest ≤ n → rest ++ replicate (n - length rest) 0 ≡ octets_at s i n
+  rest_past h = ap (λ (r : List ℕ). r ++ replicate (n - length rest) 0) (sym (take_all n rest h)) ∙ whole
+
+-- a shorter run is the front of a longer one
+pub octets_front : (s : List ℕ) (i m n : ℕ) → m ≤ n → octets_at s i m ≡ take m (octets_at s i n)
+unfolding octets_at
+octets_front s i m n h = table_front m n (λ k. get_or s (i + k) 0) h
 
 -- bytes are numbers of one byte each
 pub octets_numbers : (s : List ℕ) (i n : ℕ) → octets_at s i n ≡ nats_at s i 1 n

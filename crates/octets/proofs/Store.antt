@@ -1,12 +1,11 @@
 -- Laws of stored bytes.
-use Prim.Native.Nat.{ℕ, zero, suc, ◌+◌, ◌-◌, ◌<◌, ◌≤◌, min}
+use Prim.Native.Nat.{ℕ, zero, suc, ◌+◌, ◌-◌, ◌≤◌, min}
 use mathlib.Core.Path.{◌≡◌, refl, sym, ap, ◌∙◌}
 use mathlib.Core.List.{List, [], ◌∷◌, ◌++◌, append-nil, append_assoc}
-use native.Mathlib.Numerals.{add-one}
 use native.Mathlib.Decide.{dec_le}
 use native.Mathlib.Omega.{arith}
-use lib.ListN.{length, get_or, set, take, drop, length-set, length-append, length-drop, drop_of_length-le, take-append-drop}
-use lib.Seq.{sets, sets-eq, set_out, length-sets, take-suc, take_all, length-take-le, take_at, take-append-le, drop_at, drop-append-le, drop-drop}
+use lib.ListN.{length, set, take, drop, length-set, length-append, length-drop, drop_of_length-le, take-append-drop}
+use lib.Seq.{sets, sets-eq, set_out, length-sets, take_all, length-take-le, take_at, take-append-le, drop_at, drop-append-le, drop-drop}
 use borrow.Rule.Slice.PartMut.{put_mid}
 use Rattle.octets.specs.Bytes.{part, put}
 use Rattle.octets.proofs.Codec.{part_length}
@@ -127,41 +126,17 @@ put_room b s i zero h = sym (put_past b s i (omega arith))
 put_room [] s i (suc n) h = refl
 put_room (x ∷ b) s i (suc n) h = put_room b (set s i x) (suc i) n (rw length-set (omega arith))
 
-one : (s : List ℕ) (i v : ℕ) → set s i v ≡ put s i (v ∷ [])
-unfolding put
-one s i v = refl
-
--- the loop's invariant: d is the list before the loop, out the list now, k the bytes stored
-abbrev pub Stored : List ℕ → ℕ → List ℕ → List ℕ → ℕ → Type 0
-Stored b i d out k = (length out ≡ length d) × (out ≡ put d i (take k b))
-
--- before the first byte
-pub store_none : (b : List ℕ) (i : ℕ) (d : List ℕ) → Stored b i d d 0
-store_none b i d = (refl, sym (put_nothing d i))
-
--- one byte more
-pub store_more : (b d out : List ℕ) (i k : ℕ) → k < length b → Stored b i d out k → Stored b i d (set out (i + k) (get_or b k 0)) (k + 1)
-store_more b d out i k h inv = (
-  length-set out (i + k) (get_or b k 0) ∙ inv.0,
-  let n : i + length (take k b) ≡ i + k = ap (λ (j : ℕ). i + j) (length-take-le k b (omega arith)) in
-      let x : List ℕ = get_or b k 0 ∷ [] in
-      let e : take (k + 1) b ≡ take k b ++ x = ap (λ (j : ℕ). take j b) (add-one k) ∙ take-suc b k 0 h in
-      one out (i + k) (get_or b k 0) ∙ ap (λ (l : List ℕ). put l (i + k) x) inv.1
-      ∙ put_then (take k b) d x i (i + k) n ∙ ap (put d i) (sym e),
-)
-
--- the whole, from an index and a count that were cut to the room
-pub store_done : (b d out : List ℕ) (i from n k : ℕ) → from ≡ min i (length d) → n ≡ min (length b) (length d - from) → n ≡ k
-    → Stored b from d out k → out ≡ put d i b
-store_done b d out i from n k ef en ek inv = inv.1 ∙ go (dec_le i (length d))
+-- bytes stored by a copy of as many as there is room for, from an index that was cut to the end
+pub store_cut : (b d x : List ℕ) (i from n : ℕ) → from ≡ min i (length d) → n ≡ min (length b) (length d - from) → x ≡ take n b
+    → put_mid from n d x ≡ put d i b
+store_cut b d x i from n ef en ex =
+    ap (put_mid from n d) ex ∙ put_part d (take n b) from n (omega arith) (length-take-le n b (omega arith))
+    ∙ short (dec_le (length b) n) ∙ go (dec_le i (length d))
   where
-    cut : put d from (take k b) ≡ put d from b
-    cut = short (dec_le (length b) k)
-      where
-        short : Dec (length b ≤ k) → put d from (take k b) ≡ put d from b
-        short (yes h) = ap (put d from) (take_all k b h)
-        short (no h) = put_room b d from k (omega arith)
+    short : Dec (length b ≤ n) → put d from (take n b) ≡ put d from b
+    short (yes h) = ap (put d from) (take_all n b h)
+    short (no h) = put_room b d from n (omega arith)
 
-    go : Dec (i ≤ length d) → put d from (take k b) ≡ put d i b
-    go (yes h) = cut ∙ ap (λ (j : ℕ). put d j b) (omega arith)
-    go (no h) = cut ∙ put_past b d from (omega arith) ∙ sym (put_past b d i (omega arith))
+    go : Dec (i ≤ length d) → put d from b ≡ put d i b
+    go (yes h) = ap (λ (j : ℕ). put d j b) (omega arith)
+    go (no h) = put_past b d from (omega arith) ∙ sym (put_past b d i (omega arith))

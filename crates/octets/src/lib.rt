@@ -2,7 +2,7 @@
 // any index: a byte past the end is read as 0, and one that would be stored past the end is left out.
 #![tactic(auto)]
 
-ghost use Rattle.std.specs.Prelude.{◌≡◌, ◌+◌, min, length, get_or};
+ghost use Rattle.std.specs.Prelude.{◌≡◌, ◌+◌, min, length, get_or, drop};
 ghost use Rattle.octets.specs.Bytes.{nat_at, int_at, signed, put};
 ghost use Rattle.octets.specs.Table.{octets_at};
 
@@ -95,18 +95,27 @@ pub fn i32_at(bytes: &[u8], i: usize) -> i32
 pub fn least(a: usize, b: usize) -> usize
     ensures { result ≡ min a b }
 {
-    if a < b { a } else { b }
+    a.min(b)
+}
+
+// The bytes from index i on.
+pub fn bytes_from(bytes: &[u8], i: usize) -> &[u8]
+    ensures { result.now ≡ drop i bytes.now }
+{
+    bytes.get(i..).unwrap_or(&[])
 }
 
 // Fills out with the bytes from index i on.
 pub fn read_into(bytes: &[u8], i: usize, out: &mut [u8])
     ensures { out.new ≡ octets_at bytes.now i (length out.old) }
 {
-    let from = least(i, bytes.len());
-    let mut k = 0;
-    while k < out.len() {
-        out[k] = u8_at(bytes, from + k);
-        k = k + 1;
+    let rest = bytes_from(bytes, i);
+    if out.len() <= rest.len() {
+        out.copy_from_slice(&rest[..out.len()]);
+    } else {
+        let (read, past) = out.split_at_mut(rest.len());
+        read.copy_from_slice(rest);
+        past.fill(0);
     }
 }
 
@@ -114,11 +123,11 @@ pub fn read_into(bytes: &[u8], i: usize, out: &mut [u8])
 pub fn write_into(bytes: &[u8], i: usize, out: &mut [u8])
     ensures { out.new ≡ put out.old i bytes.now }
 {
-    let from = least(i, out.len());
-    let n = least(bytes.len(), out.len() - from);
-    let mut k = 0;
-    while k < n {
-        out[from + k] = bytes[k];
-        k = k + 1;
+    let from = i.min(out.len());
+    let room = out.len() - from;
+    if bytes.len() <= room {
+        out[from..from + bytes.len()].copy_from_slice(bytes);
+    } else {
+        out[from..].copy_from_slice(&bytes[..room]);
     }
 }

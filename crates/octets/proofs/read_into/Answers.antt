@@ -1,51 +1,19 @@
--- One law of loops that fill a list, at the bytes from index i on.
-use Prim.Native.Nat.{◌+◌}
-use mathlib.Core.Path.{◌∙◌, refl}
-use native.Mathlib.Omega.{arith}
-use lib.ListN.{get_or, length-set}
-use Rattle.octets.specs.Table.{octets_at}
-use Rattle.octets.proofs.Fill.{fill_more, fill_done}
-use Rattle.octets.proofs.Read.{past_end}
+-- The bytes from the index on, and zeros behind them.
+use Rattle.std.proofs.Common.{◌≡◌, ℕ, ◌-◌, List, ◌++◌, length, replicate, ap, ap₂, ◌∙◌, arith, rules}
+use Rattle.octets.proofs.Fill.{rest_within, rest_past}
 use Rattle.octets.proofs.read_into.Goals as goal
 
-pub least-from-requires : goal.least-from-requires
-least-from-requires c = omega arith
-
-pub loop-k-init : goal.loop-k-init
-loop-k-init c = (c.least-from.ensures, refl, (omega arith, refl))
-
-pub overflow_add-from : goal.overflow_add-from
-overflow_add-from c = omega arith
-
-pub u8_at-requires : goal.u8_at-requires
-u8_at-requires c = omega arith
-
-pub bounds-out-k : goal.bounds-out-k
-bounds-out-k c = omega arith
-
-pub overflow_add-k : goal.overflow_add-k
-overflow_add-k c = omega arith
-
-pub loop-k-smaller : goal.loop-k-smaller
-loop-k-smaller c = omega arith
-
-pub loop-k-preserved : goal.loop-k-preserved
-loop-k-preserved c =
-    let l = c.loop-k in
+pub returns-then-out-rest : goal.returns-then-out-rest
+returns-then-out-rest c =
     let a = c.args in
-    let v = c.u8_at.ensures ∙ past_end a.bytes.now a.i l.k _ l.invariant.0 in
-    let h = c.loop-k-test.true in (
-      l.invariant.0,
-      rw length-set l.invariant.1,
-      fill_more (λ k. get_or a.bytes.now (a.i + k) 0) a.out.now l.out l.k _ (omega arith) v l.invariant.2,
-    )
+    c.copy_from_slice.ensures.after ∙ rest_within a.bytes.now _ a.i _ c.bytes_from-rest.ensures c.if-out-rest.true
 
-pub shape_of-out : goal.shape_of-out
-shape_of-out c = c.loop-k.invariant.1
-
-pub returns : goal.returns
-unfolding octets_at
-returns c =
-    let l = c.loop-k in
+pub returns-else-out-rest : goal.returns-else-out-rest
+returns-else-out-rest c =
     let a = c.args in
-    fill_done (λ k. get_or a.bytes.now (a.i + k) 0) a.out.now l.out l.k (omega arith) l.invariant.2
+    let n = length a.out.now in
+    let rest = c.bytes_from-rest.result.now in
+    let past : c.fill.new.self ≡ replicate (n - length rest) 0 =
+    c.fill.ensures.after (search rules) ∙ ap (λ (k : ℕ). replicate k 0) (omega (arith, c.split_at_mut-read.ensures.back_len)) in
+    ap₂ (λ (l r : List ℕ). l ++ r) c.copy_from_slice-else-out-rest.ensures.after past
+    ∙ rest_past a.bytes.now rest a.i n c.bytes_from-rest.ensures (omega arith)
