@@ -1,5 +1,5 @@
 -- A list filled by a loop with the numbers of a run: one law over the width and the sign.
-use Rattle.std.proofs.Common.{◌≡◌, ℕ, ◌+◌, ◌*◌, ◌<◌, ◌≤◌, List, length, get_or, take, drop, set, sym, ap, ap₂, ◌∙◌, arith, zero-add, add-one, mul-suc}
+use Rattle.std.proofs.Common.{◌≡◌, ℕ, ◌+◌, ◌*◌, ◌<◌, ◌≤◌, List, length, take, drop, set, sym, ap, ap₂, ◌∙◌, arith, zero-add, add-one, mul-suc}
 use lib.Seq.{get_or-drop, drop-drop}
 use Rattle.octets.specs.Word.{WordLaws}
 use Rattle.octets.proofs.Codec.{part_at}

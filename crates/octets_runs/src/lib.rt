@@ -1,9 +1,9 @@
 // Runs of numbers in lent bytes, the most significant byte first. Every function takes any slice and any index: a byte past the end is read as 0.
 #![tactic(auto)]
 
-ghost use Rattle.std.specs.Prelude.{◌≡◌, ◌+◌, ◌*◌, ◌<◌, ◌≤◌, length, drop};
+ghost use Rattle.std.specs.Prelude.{◌≡◌, ◌+◌, ◌*◌, ◌<◌, ◌≤◌, length};
 
-use octets::{Word, has_run};
+use octets::{Word, bytes_from, has_run};
 
 // Fills out with the numbers from index i on, all of which are there.
 fn read_run_within<W: Word>(bytes: &[u8], i: usize, out: &mut [W])
@@ -14,13 +14,6 @@ fn read_run_within<W: Word>(bytes: &[u8], i: usize, out: &mut [W])
         let at = i + W::WIDTH * k;
         *number = W::read_at(&bytes[at..at + W::WIDTH], 0);
     }
-}
-
-// The bytes from index i on.
-fn bytes_from(bytes: &[u8], i: usize) -> &[u8]
-    ensures { result.now ≡ drop i bytes.now }
-{
-    bytes.get(i..).unwrap_or(&[])
 }
 
 // The same where some may be past the end.

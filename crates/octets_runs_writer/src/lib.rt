@@ -12,14 +12,9 @@ use octets::{Word, has_run};
 pub fn copy_part(bytes: &[u8], i: usize, n: usize, at: usize, out: &mut [u8])
     ensures { out.new ≡ put out.old at (octets_at bytes.now i n) }
 {
-    let from = octets::least(i, bytes.len());
-    let to = octets::least(at, out.len());
-    let count = octets::least(n, out.len() - to);
-    let mut k = 0;
-    while k < count {
-        out[to + k] = octets::u8_at(bytes, from + k);
-        k = k + 1;
-    }
+    let to = at.min(out.len());
+    let count = n.min(out.len() - to);
+    octets::read_into(bytes, i, &mut out[to..to + count]);
 }
 
 // Stores numbers, one after the other, from index i on, where there is room for all of them.

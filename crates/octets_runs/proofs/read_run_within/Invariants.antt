@@ -1,5 +1,4 @@
 -- The law of loops that fill a list, at the numbers of a run.
-use Rattle.std.proofs.Common.{◌+◌, ◌*◌}
 use Rattle.octets_runs.proofs.Numbers.{Reading}
 use Rattle.octets_runs.proofs.read_run_within.Given as goal
 
