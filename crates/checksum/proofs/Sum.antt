@@ -1,7 +1,5 @@
 -- Laws of the sum of words: bytes added in pairs that lie across two words, and one word taken as zero.
-use Rattle.std.proofs.Common.{◌≡◌, ℕ, zero, suc, ◌+◌, ◌*◌, ◌%◌, ◌<◌, ◌≤◌, List, [], ◌∷◌, length, get_or, drop, sym, refl, ap, ◌∙◌, add-one, arith, drop_of_length-le, drop-cons}
-use native.Mathlib.Decide.{dec_lt}
-use lib.ListN.{get_or-eq_default}
+use Rattle.std.proofs.Common.{◌≡◌, ℕ, zero, suc, ◌+◌, ◌-◌, ◌*◌, ◌%◌, ◌<◌, ◌≤◌, List, [], ◌∷◌, ◌++◌, length, get_or, drop, sym, refl, ap, ◌∙◌, add-one, arith}
 use Rattle.octets.specs.Bytes.{put}
 use Rattle.octets.proofs.Store.{put_past}
 use Rattle.checksum.specs.Sum.{word_sum, word_at, zeroed, packet_sum}
@@ -23,33 +21,29 @@ sum_none [] h = refl
 sum_none (a ∷ s) h = absurd (omega arith)
 
 -- the first byte, and the rest
-pub sum_first : (s : List ℕ) → 0 < length s → (get_or s 0 0 * 256 + low_sum (drop 1 s)) % 65536 ≡ word_sum s % 65536
-sum_first s h = ap (λ (n : ℕ). n % 65536) (sym (ap word_sum (drop-cons s 0 0 h) ∙ high_first (get_or s 0 0) (drop 1 s)))
+pub sum_first : (s r : List ℕ) (a n : ℕ) → s ≡ a ∷ r → n ≡ a → (n * 256 + low_sum r) % 65536 ≡ word_sum s % 65536
+sum_first s r a n e en = ap (λ (k : ℕ). k % 65536) (ap (λ (k : ℕ). k * 256 + low_sum r) en ∙ sym (ap word_sum e ∙ high_first a r))
 
--- two bytes more, and the rest
-pub low_pair : (s : List ℕ) (i : ℕ) → i + 2 ≤ length s → low_sum (drop i s) ≡ get_or s i 0 + get_or s (i + 1) 0 * 256 + low_sum (drop (i + 2) s)
+-- the byte behind the pairs of bytes, or 0
+abbrev pub last_byte : List ℕ → ℕ
+last_byte s = get_or (drop (length s - length s % 2) s) 0 0
+
+-- a pair, and the rest
+pub pair_first : (s p r : List ℕ) → s ≡ p ++ r → length p ≡ 2 → (low_sum s ≡ get_or p 0 0 + get_or p 1 0 * 256 + low_sum r) × (last_byte s ≡ last_byte r)
 unfolding low_sum
-low_pair s i h =
-    let a : drop i s ≡ get_or s i 0 ∷ drop (suc i) s = drop-cons s i 0 (omega arith) in
-    let b : drop (suc i) s ≡ get_or s (suc i) 0 ∷ drop (suc (suc i)) s = drop-cons s (suc i) 0 (omega arith) in
-    let j : i + 1 ≡ suc i = omega arith in
-    let k : i + 2 ≡ suc (suc i) = omega arith in
-    rw (j, k)
-    (omega (arith, ap low_sum a, ap word_sum b, high_first (get_or s (suc i) 0) (drop (suc (suc i)) s)))
+pair_first s [] r e h = absurd (omega arith)
+pair_first s (a ∷ []) r e h = absurd (omega arith)
+pair_first s (a ∷ b ∷ []) r e h =
+    let n : suc (suc (length r)) - suc (suc (length r)) % 2 ≡ suc (suc (length r - length r % 2)) = omega arith in
+    (ap low_sum e ∙ omega (arith, high_first b r), ap last_byte e ∙ ap (λ (k : ℕ). get_or (drop k (a ∷ b ∷ r)) 0 0) n)
+pair_first s (a ∷ b ∷ x ∷ p) r e h = absurd (omega arith)
 
--- the last byte, or none
-pub low_last : (s : List ℕ) (i : ℕ) → length s ≤ i + 1 → low_sum (drop i s) ≡ get_or s i 0
+-- no pair
+pub no_pair : (s : List ℕ) → length s < 2 → low_sum s ≡ last_byte s
 unfolding low_sum word_sum
-low_last s i h = go (dec_lt i (length s))
-  where
-    go : Dec (i < length s) → low_sum (drop i s) ≡ get_or s i 0
-    go (yes l) =
-        let a : drop i s ≡ get_or s i 0 ∷ drop (suc i) s = drop-cons s i 0 l in
-        let b : drop (suc i) s ≡ [] = drop_of_length-le s {i = suc i} (omega arith) in
-        omega (arith, ap low_sum a, ap word_sum b)
-    go (no l) =
-        let a : drop i s ≡ [] = drop_of_length-le s {i = i} (omega arith) in
-        omega (arith, ap low_sum a, get_or-eq_default s 0 {n = i} (omega arith))
+no_pair [] h = refl
+no_pair (a ∷ []) h = omega arith
+no_pair (a ∷ b ∷ s) h = absurd (omega arith)
 
 -- a loop that adds numbers: one more, and the last. x is the sum from there on, v the number added, b the rest
 pub add_more : (x b s v r t : ℕ) → x ≡ v + b → r ≡ (s + v) % 65536 → (s + x) % 65536 ≡ t → (r + b) % 65536 ≡ t

@@ -1,21 +1,15 @@
 // The sum of the words of any bytes, and the packet sum. Both are added from the lent bytes in place.
 #![tactic(auto)]
 
-ghost use Rattle.std.specs.Prelude.{◌≡◌, ◌+◌, ◌*◌, ◌%◌, ◌<◌, ◌≤◌, length, slice_index};
+ghost use Rattle.std.specs.Prelude.{◌≡◌, ◌+◌, ◌*◌, ◌%◌, length, slice_index};
 ghost use Rattle.checksum.specs.Sum.{word_sum, packet_sum};
 
-fn wide(x: u8) -> u16
-    ensures { (result ≡ x) × (result < 256) }
+// Two bytes, the lower half of a word and the upper half of the next, as they count in the sum.
+fn halves(pair: &[u8]) -> u16
+    requires { length pair.now ≡ 2 }
+    ensures { result ≡ slice_index pair.now 0 + slice_index pair.now 1 * 256 }
 {
-    x as u16
-}
-
-// The two bytes from index i on, the lower half of a word and the upper half of the next, as they count in the sum.
-fn halves(bytes: &[u8], i: usize) -> u16
-    requires { i + 2 ≤ length bytes.now }
-    ensures { result ≡ slice_index bytes.now i + slice_index bytes.now (i + 1) * 256 }
-{
-    wide(bytes[i]) + wide(bytes[i + 1]) * 256
+    u16::from_le_bytes([pair[0], pair[1]])
 }
 
 // The sum of all words of any bytes, carries out of 16 bits dropped. After the first byte it takes the bytes in pairs that lie across two words:
@@ -23,17 +17,17 @@ fn halves(bytes: &[u8], i: usize) -> u16
 pub fn word_sum(bytes: &[u8]) -> u16
     ensures { result ≡ word_sum bytes.now % 65536 }
 {
-    let n = bytes.len();
-    if n == 0 {
+    let Some((first, rest)) = bytes.split_first() else {
         return 0;
+    };
+    let mut sum = u16::from(*first) * 256;
+    let pairs = rest.chunks_exact(2);
+    let last = octets::u8_at(pairs.remainder(), 0);
+    for pair in pairs {
+        let added = halves(pair);
+        sum = sum.wrapping_add(added);
     }
-    let mut sum: u16 = wide(bytes[0]) * 256;
-    let mut i: usize = 1;
-    while 2 <= n - i {
-        sum = std::num::wrapping_add_u16(sum, halves(bytes, i));
-        i = i + 2;
-    }
-    std::num::wrapping_add_u16(sum, wide(octets::u8_at(bytes, i)))
+    sum.wrapping_add(u16::from(last))
 }
 
 // The packet sum of any bytes, with the word sum_word taken as zero. Any word.
@@ -44,5 +38,5 @@ pub fn packet_sum(bytes: &[u8], sum_word: usize) -> u16
     if bytes.len() <= sum_word {
         return all;
     }
-    std::num::wrapping_sub_u16(all, octets::u16_at(bytes, sum_word * 2))
+    all.wrapping_sub(octets::u16_at(bytes, sum_word * 2))
 }

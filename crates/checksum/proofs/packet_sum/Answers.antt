@@ -9,5 +9,4 @@ returns-then-bytes-sum_word c = let a = c.args in c.word_sum-all.ensures ∙ pla
 pub returns : goal.returns
 returns c =
     let a = c.args in
-    place_taken a.bytes.now a.sum_word _ _ _ c.word_sum-all.ensures c.u16_at.ensures (omega arith)
-    c.wrapping_sub_u16.ensures.value
+    place_taken a.bytes.now a.sum_word _ _ _ c.word_sum-all.ensures c.u16_at.ensures (omega arith) (omega arith)
