@@ -24,12 +24,13 @@ pub fn sum_in_parts(bytes: &[u8], word: usize) -> PartSums
 {
     let n = bytes.len();
     // At most n first, so that twice the word does not overflow.
-    let cut = octets::least(octets::least(word, n) * 2, n);
-    let before = checksum::word_sum(&bytes[..cut]);
-    let after = checksum::word_sum(&bytes[cut..]);
+    let cut = (word.min(n) * 2).min(n);
+    let (first, second) = bytes.split_at(cut);
+    let before = checksum::word_sum(first);
+    let after = checksum::word_sum(second);
     PartSums {
         before,
         after,
-        whole: std::num::wrapping_add_u16(before, after),
+        whole: before.wrapping_add(after),
     }
 }
