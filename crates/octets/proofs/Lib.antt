@@ -7,3 +7,4 @@ pub mod Complement
 pub mod Runs
 pub mod Bits
 pub mod Each
+pub mod FromFn
