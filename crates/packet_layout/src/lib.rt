@@ -56,7 +56,7 @@ pub const CARRIED_AT: usize = 106;
 pub fn is_sum_word(word: usize) -> bool
     ensures { result ≡ is_sum_word word }
 {
-    FIRST_SUM_WORD <= word && word <= LAST_SUM_WORD
+    (FIRST_SUM_WORD..=LAST_SUM_WORD).contains(&word)
 }
 
 // Each byte of the packet stands in exactly one column.
