@@ -49,6 +49,7 @@ pub struct Packet {
     pub arrays: PacketArrays,
 }
 
+#[tactic(auto, unfolding(crate::specs::Fields::fields_of))]
 fn read_fields(bytes: &[u8]) -> PacketFields
     ensures { result ≡ fields_of bytes.now }
 {
@@ -71,6 +72,7 @@ fn read_fields(bytes: &[u8]) -> PacketFields
     }
 }
 
+#[tactic(auto, unfolding(crate::specs::Fields::arrays_of))]
 fn read_arrays(bytes: &[u8]) -> PacketArrays
     ensures { result ≡ arrays_of bytes.now }
 {
@@ -108,12 +110,6 @@ pub fn read_packet(bytes: &[u8], sum_word: usize) -> Result<Packet, Refusal>
 pub fn carried(bytes: &[u8]) -> &[u8]
     ensures { result.now ≡ carried_of bytes.now }
 {
-    let n = bytes.len();
-    if n < CARRIED_AT {
-        return &bytes[n..];
-    }
-    if n < PACKET_SIZE {
-        return &bytes[CARRIED_AT..];
-    }
-    &bytes[CARRIED_AT..PACKET_SIZE]
+    let end = bytes.len().min(PACKET_SIZE);
+    &bytes[end.min(CARRIED_AT)..end]
 }
