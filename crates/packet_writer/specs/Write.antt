@@ -2,7 +2,7 @@
 -- ignores what the carried bytes hold at the sum's word.
 use Rattle.std.specs.Prelude.{ℕ, ◌+◌, ◌-◌, ◌*◌, ◌^◌, List, [], ◌∷◌, ◌++◌, eqb, leb, length, get_or}
 use Rattle.octets.specs.Bytes.{octets_of, put}
-use Rattle.octets.specs.Refusal.{refuse◌unless◌else◌, Said, refused, answered, say, after}
+use Rattle.octets.specs.Refusal.{refuse◌unless◌else◌, Said, say, after}
 use Rattle.octets.specs.Table.{table}
 use Rattle.layout.specs.Column.{join}
 use Rattle.checksum.specs.Sum.{packet_sum}
@@ -12,8 +12,6 @@ use Rattle.packet_layout.specs.SumWord.{is_sum_word}
 use Rattle.packet_bins.specs.Bins.{bin_byte}
 use Rattle.packet.specs.declared.PacketFields.{PacketFields}
 use Rattle.packet.specs.declared.PacketArrays.{PacketArrays}
-use Rattle.packet_writer.specs.declared.PacketWritten.{PacketWritten}
-use Rattle.packet_writer.specs.declared.PacketWritten.TheVariants.{Refused, Written}
 
 -- bytes 0-1, from the top bit: version 3 (0), spare 1 (0), flag 1 (0), error status 3, instrument 8 (35)
 abbrev pub id_word : PacketFields → ℕ
@@ -75,11 +73,6 @@ write_refusal f x word out =
     refuse 17 unless eqb (length x) (columns.carried).items else
     refuse 18 unless eqb (length out) columns.packet_size else
     0
-
--- the number that each case of the answer stands for
-abbrev pub written_said : PacketWritten → Said (Unit {0})
-written_said (Refused n) = refused n
-written_said Written = answered tt
 
 -- what is due of the writer, and the bytes then in the output
 abbrev pub write_due : PacketFields → List ℕ → ℕ → List ℕ → Said (Unit {0})

@@ -1,36 +1,30 @@
 -- What is said, and the bytes then in the output, by the ladder's number.
-use mathlib.Core.Path.{refl, sym, ◌∙◌}
-use native.Mathlib.Omega.{arith}
-use Rattle.octets.proofs.Ladder.{say_refused, say_answered, after_refused, after_done}
-use Rattle.packet_writer.specs.Write.{packet_of}
+use Rattle.std.proofs.Common.{◌≡◌, refl, sym, arith}
+use Rattle.octets.proofs.Ladder.{say_answered, after_refused, after_done}
+use Rattle.refusal.specs.Number.{number}
+use Rattle.refusal.proofs.Said.{number_not_0, say_handed_on}
+use Rattle.packet_writer.specs.Write.{write_refusal, packet_of}
 use Rattle.packet_writer.proofs.Accept.{Writable, writable, summed}
 use Rattle.packet_writer.proofs.write_packet.Goals as goal
 
-pub returns-then-n-ne0 : goal.returns-then-n-ne0
-returns-then-n-ne0 c =
+pub returns-in_err-check_write : goal.returns-in_err-check_write
+returns-in_err-check_write c =
     let a = c.args in
-    let e = c.refusal-n.ensures in
-    let p = packet_of a.fields a.arrays a.carried.now a.sum_word in
-    (say_refused _ _ tt e c.if-n-ne0.true, after_refused _ _ p a.out.now e c.if-n-ne0.true)
+    let p = a.packet.now in
+    let r = c.in_err-check_write.field-0.0 in
+    let q : number r ≡ write_refusal p.fields a.carried.now a.sum_word a.out.now = c.in_err-check_write.ensures in
+    (say_handed_on _ _ _ tt c.from_residual.ensures q, after_refused _ _ (packet_of p.fields p.arrays a.carried.now a.sum_word) a.out.now q (number_not_0 r))
 
 pub write_unsummed-requires : goal.write_unsummed-requires
-write_unsummed-requires c = let m : Writable c.args.fields c.args.carried.now c.args.sum_word c.args.out.now = writable _ _ _ _ (sym c.refusal-n.ensures ∙ c.if-n-ne0.false) in (m.count, m.carries, m.room)
+write_unsummed-requires c = let m : Writable c.args.packet.now.fields c.args.carried.now c.args.sum_word c.args.out.now = writable _ _ _ _ (sym c.in_ok-check_write.ensures) in (m.count, m.carries, m.room)
 
 pub overflow_mul-sum_word : goal.overflow_mul-sum_word
-overflow_mul-sum_word c = let m : Writable c.args.fields c.args.carried.now c.args.sum_word c.args.out.now = writable _ _ _ _ (sym c.refusal-n.ensures ∙ c.if-n-ne0.false) in omega (arith, m.to)
+overflow_mul-sum_word c = let m : Writable c.args.packet.now.fields c.args.carried.now c.args.sum_word c.args.out.now = writable _ _ _ _ (sym c.in_ok-check_write.ensures) in omega (arith, m.to)
 
 pub returns : goal.returns
 returns c =
-    let e = c in
-    let a = e.args in
-    let z = sym e.refusal-n.ensures ∙ e.if-n-ne0.false in
-    let u = c.write_unsummed in
-    let s = c.packet_sum in
-    let v = c.u16_bytes-sum in
-    let o = c.write_into in
-    let p = packet_of a.fields a.arrays a.carried.now a.sum_word in (
-      say_answered _ tt tt z refl,
-      after_done _ p a.out.now _ z
-          (summed a.fields a.arrays a.carried.now a.sum_word s.result u.new.out v.result _
-          u.ensures s.ensures v.ensures o.ensures),
-    )
+    let a = c.args in
+    let p = a.packet.now in
+    let z : write_refusal p.fields a.carried.now a.sum_word a.out.now ≡ 0 = sym c.in_ok-check_write.ensures in
+    let summed = summed p.fields p.arrays a.carried.now a.sum_word _ _ _ _ c.write_unsummed.ensures c.packet_sum.ensures refl c.write_u16.ensures in
+    (say_answered _ tt tt z refl, after_done _ (packet_of p.fields p.arrays a.carried.now a.sum_word) a.out.now _ z summed)
