@@ -1,5 +1,5 @@
 -- Document 01, "Refusal numbers": the number of each refusal, and what an entry that answers by a Result says. 40 to 49 are those of the record's writer.
-use Rattle.std.specs.Prelude.{ℕ, Result, Ok, Err}
+use Rattle.std.specs.Prelude.{ℕ, ◌≡◌, Result, Ok, Err}
 use Rattle.octets.specs.Refusal.{Said, refused, answered}
 use Rattle.refusal.specs.declared.Refusal.{Refusal}
 use Rattle.refusal.specs.declared.Refusal.TheVariants.{PacketSize, SumPlace, Version, Spare, Flag, Instrument, Segmentation, Length, PacketType, Sum, RecordSize, QualityCounter, TimeMicros, Latitude, FrameIndex, Shot, FreeField, PacketOutput, Threshold, NoPosition, PositionPastEnd, PositionBelowNext, PositionHeld, PositionTooFar, NextHeld, StoreSize, NextAtEnd, OutputSize, SessionBroken, Budget, Class, RecordOutput, FrameDiffers, RecordField}
@@ -39,6 +39,11 @@ number Class = 40
 number RecordOutput = 41
 number FrameDiffers = 42
 number RecordField = 49
+
+-- each refusal has a number of its own, and none has 0, which says that nothing is refused
+pub record NumbersDiffer : Type 0 where
+  pub own : (a b : Refusal) → number a ≡ number b → a ≡ b
+  pub not_0 : (a : Refusal) → number a ≡ 0 → ⊥
 
 -- what is said by the Result that an entry answers: a refusal by its number
 abbrev pub said : {A : Type 0} → Result A Refusal → Said A

@@ -3,7 +3,7 @@
 
 ghost use Rattle.std.specs.Prelude.{◌≡◌};
 ghost use Rattle.octets.specs.Refusal.{refusal_in};
-ghost use Rattle.refusal.specs.Number.{number, said};
+ghost use Rattle.refusal.specs.Number.{number, said, NumbersDiffer};
 
 use std::error::Error;
 use std::fmt;
@@ -144,3 +144,8 @@ pub fn number_of<A: Drop>(answer: Result<A, Refusal>) -> u8
         Err(refusal) => u8::from(refusal),
     }
 }
+
+// No two refusals have one number, and none has 0.
+pub fn numbers_differ()
+    ensures { NumbersDiffer }
+{}
