@@ -75,10 +75,8 @@ fn read_classes(bytes: &[u8]) -> [Class; SHOTS]
     ensures { result ≡ classes_of bytes.now }
 {
     let mut classes = [Class::NoTrigger; SHOTS];
-    let mut k = 0;
-    while k < SHOTS {
-        classes[k] = Class::from(octets::u16_at(bytes, CLASS_AT + 2 * k));
-        k = k + 1;
+    for (k, class) in classes.iter_mut().enumerate() {
+        *class = Class::from(octets::u16_at(bytes, CLASS_AT + 2 * k));
     }
     classes
 }
@@ -92,10 +90,8 @@ fn read_encoders(bytes: &[u8]) -> [Encoder; SHOTS]
         stop: 0,
         carried_high: 0,
     }; SHOTS];
-    let mut k = 0;
-    while k < SHOTS {
-        encoders[k] = Encoder::from(octets::u8_at(bytes, ENCODER_AT + k));
-        k = k + 1;
+    for (k, encoder) in encoders.iter_mut().enumerate() {
+        *encoder = Encoder::from(octets::u8_at(bytes, ENCODER_AT + k));
     }
     encoders
 }

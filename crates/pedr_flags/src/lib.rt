@@ -54,8 +54,9 @@ pub struct ShotFlags {
 }
 
 // What a shot met: false or no trigger (0), probable ground (1), or a number that is not assigned.
-#[derive(Clone, Copy)]
+#[derive(Clone, Copy, Default)]
 pub enum Class {
+    #[default]
     NoTrigger,
     ProbableGround,
     Unassigned(u16),
@@ -75,7 +76,15 @@ pub struct Encoder {
 pub fn good_count(number: u32) -> u32
     ensures { result ≡ good_count number }
 {
-    u32::count_ones(number & 0xFFFFF)
+    (number & 0xFFFFF).count_ones()
+}
+
+// Whether bit k of a word is one.
+fn is_set(word: u64, k: usize) -> bool
+    requires { k < 64 }
+    ensures { result ≡ eqb (bit word k) 1 }
+{
+    (word >> k) & 1 == 1
 }
 
 // Whether a shot is good by a quality number.
@@ -83,7 +92,7 @@ fn is_good(number: u32, shot: usize) -> bool
     requires { (1 ≤ shot) × (shot ≤ shot_count) }
     ensures { result ≡ good_shot number shot }
 {
-    (number >> (20 - shot)) & 1 == 1
+    is_set(u64::from(number), 20 - shot)
 }
 
 // The quality of a record's bytes.
@@ -104,7 +113,7 @@ fn has_failed(bytes: &[u8], k: usize) -> bool
     ensures { result ≡ failed bytes.now k }
 {
     let byte = octets::u8_at(bytes, 48 - k / 8 - 1);
-    (byte >> (k % 8)) & 1 == 1
+    is_set(u64::from(byte), k % 8)
 }
 
 // The descriptor of a record's bytes, but for the tests of its shots.
@@ -139,15 +148,7 @@ fn descriptor_word(bytes: &[u8], i: usize) -> u64
     requires { i ≤ 40 }
     ensures { result ≡ nat_at bytes.now i 8 }
 {
-    (octets::u32_at(bytes, i) as u64) * 4294967296 + octets::u32_at(bytes, i + 4) as u64
-}
-
-// Whether bit k of a word is one.
-fn is_set(word: u64, k: usize) -> bool
-    requires { k < 64 }
-    ensures { result ≡ eqb (bit word k) 1 }
-{
-    (word >> k) & 1 == 1
+    (u64::from(octets::u32_at(bytes, i)) << 32) + u64::from(octets::u32_at(bytes, i + 4))
 }
 
 // The tests of the 20 shots by a record's bytes; shot s stands at index s - 1. Bits 0 to 63 of the descriptor are one word, and bits 64 to 127 another.
@@ -156,23 +157,15 @@ pub fn read_all_failures(bytes: &[u8]) -> [ShotFailures; SHOTS]
 {
     let low = descriptor_word(bytes, 40);
     let high = descriptor_word(bytes, 32);
-    let mut failures = [ShotFailures {
-        power: false,
-        energy: false,
-        range: false,
-        window: false,
-        comparison: false,
-    }; SHOTS];
-    let mut k = 0;
-    while k < SHOTS {
-        failures[k] = ShotFailures {
+    let mut failures = [ShotFailures::default(); SHOTS];
+    for (k, shot) in failures.iter_mut().enumerate() {
+        *shot = ShotFailures {
             power: is_set(low, 4 + k),
             energy: is_set(low, 24 + k),
             range: is_set(low, 44 + k),
             window: is_set(high, k),
             comparison: is_set(high, 20 + k),
         };
-        k = k + 1;
     }
     failures
 }

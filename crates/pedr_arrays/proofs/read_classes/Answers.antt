@@ -10,33 +10,13 @@ use Rattle.pedr_arrays.proofs.read_classes.Goals as goal
 pub loop-k-init : goal.loop-k-init
 loop-k-init c = (omega arith, refl)
 
-pub overflow_mul-k : goal.overflow_mul-k
-overflow_mul-k c = omega arith
-
-pub overflow_add-k : goal.overflow_add-k
-overflow_add-k c = omega arith
-
-pub offset_bounds-classes-k : goal.offset_bounds-classes-k
-offset_bounds-classes-k c = omega arith
-
-pub bounds-classes-k : goal.bounds-classes-k
-bounds-classes-k c = omega arith
-
-pub overflow_add-k-in-loop-k : goal.overflow_add-k-in-loop-k
-overflow_add-k-in-loop-k c = omega arith
-
-pub loop-k-smaller : goal.loop-k-smaller
-loop-k-smaller c = omega arith
-
 pub loop-k-preserved : goal.loop-k-preserved
 loop-k-preserved c =
     let l = c.loop-k in
-    let s = c.args.bytes.now in
-    fill_more (class_at s) _ l.classes l.k _ c.loop-k-test.true (c.from.ensures ∙ ap class_of c.u16_at.ensures) l.invariant
+    fill_more (class_at c.args.bytes.now) _ l.class-items l.k _ c.loop-k-test.true (c.from.ensures ∙ ap class_of c.u16_at.ensures) l.invariant
 
 pub returns : goal.returns
 unfolding classes_of
 returns c =
     let l = c.loop-k in
-    let s = c.args.bytes.now in
-    fill_done (class_at s) _ l.classes l.k c.loop-k-test.false l.invariant
+    fill_done (class_at c.args.bytes.now) _ l.class-items l.k c.loop-k-test.false l.invariant

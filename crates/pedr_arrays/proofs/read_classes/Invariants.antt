@@ -1,5 +1,5 @@
 -- One law of loops that fill a list, at the class of each shot.
-use Prim.Native.Nat.{ℕ, ◌-◌}
+use Prim.Native.Nat.{ℕ}
 use mathlib.Core.List.{List}
 use Rattle.layout.specs.Column.{item}
 use Rattle.pedr_layout.specs.Layout.{class}
@@ -12,7 +12,4 @@ abbrev pub class_at : List ℕ → ℕ → Class
 class_at s k = class_of (item s class k)
 
 abbrev pub invariant-loop-k : goal.invariant-loop-k
-invariant-loop-k l = Filled (class_at l.bytes) l.initial.classes l.classes l.k
-
-abbrev pub decreases-loop-k : goal.decreases-loop-k
-decreases-loop-k l = 20 - l.k
+invariant-loop-k l = Filled (class_at l.bytes) l.initial.class-items l.class-items l.k

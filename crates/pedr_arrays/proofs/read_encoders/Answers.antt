@@ -13,30 +13,14 @@ use Rattle.pedr_arrays.proofs.read_encoders.Goals as goal
 pub loop-k-init : goal.loop-k-init
 loop-k-init c = (omega arith, refl)
 
-pub overflow_add-k : goal.overflow_add-k
-overflow_add-k c = omega arith
-
-pub offset_bounds-encoders-k : goal.offset_bounds-encoders-k
-offset_bounds-encoders-k c = omega arith
-
-pub bounds-encoders-k : goal.bounds-encoders-k
-bounds-encoders-k c = omega arith
-
-pub overflow_add-k-in-loop-k : goal.overflow_add-k-in-loop-k
-overflow_add-k-in-loop-k c = omega arith
-
-pub loop-k-smaller : goal.loop-k-smaller
-loop-k-smaller c = omega arith
-
 pub loop-k-preserved : goal.loop-k-preserved
 loop-k-preserved c =
     let l = c.loop-k in
     let s = c.args.bytes.now in
-    fill_more (encoder_at s) _ l.encoders l.k _ c.loop-k-test.true (c.from.ensures ∙ ap (λ (b : ℕ). encoder_of b) (c.u8_at.ensures ∙ ap (λ (j : ℕ). get_or s (620 + j) 0) (sym (one-mul l.k)))) l.invariant
+    fill_more (encoder_at s) _ l.encoder-items l.k _ c.loop-k-test.true (c.from.ensures ∙ ap (λ (b : ℕ). encoder_of b) (c.u8_at.ensures ∙ ap (λ (j : ℕ). get_or s (620 + j) 0) (sym (one-mul l.k)))) l.invariant
 
 pub returns : goal.returns
 unfolding encoders_of
 returns c =
     let l = c.loop-k in
-    let s = c.args.bytes.now in
-    fill_done (encoder_at s) _ l.encoders l.k c.loop-k-test.false l.invariant
+    fill_done (encoder_at c.args.bytes.now) _ l.encoder-items l.k c.loop-k-test.false l.invariant

@@ -1,5 +1,5 @@
 -- One law of loops that fill a list, at the encoder bits of each shot.
-use Prim.Native.Nat.{ℕ, ◌-◌}
+use Prim.Native.Nat.{ℕ}
 use mathlib.Core.List.{List}
 use Rattle.layout.specs.Column.{item}
 use Rattle.pedr_layout.specs.Layout.{encoder}
@@ -12,7 +12,4 @@ abbrev pub encoder_at : List ℕ → ℕ → Encoder
 encoder_at s k = encoder_of (item s encoder k)
 
 abbrev pub invariant-loop-k : goal.invariant-loop-k
-invariant-loop-k l = Filled (encoder_at l.bytes) l.initial.encoders l.encoders l.k
-
-abbrev pub decreases-loop-k : goal.decreases-loop-k
-decreases-loop-k l = 20 - l.k
+invariant-loop-k l = Filled (encoder_at l.bytes) l.initial.encoder-items l.encoder-items l.k

@@ -1,5 +1,5 @@
 -- One law of loops that fill a list, at the tests of each shot.
-use Prim.Native.Nat.{ℕ, suc, ◌-◌}
+use Prim.Native.Nat.{ℕ, suc}
 use mathlib.Core.List.{List}
 use Rattle.octets.proofs.Fill.{Filled}
 use Rattle.pedr_flags.specs.Descriptor.{failures_of}
@@ -10,7 +10,4 @@ abbrev pub failures_at : List ℕ → ℕ → ShotFailures
 failures_at s k = failures_of s (suc k)
 
 abbrev pub invariant-loop-k : goal.invariant-loop-k
-invariant-loop-k l = Filled (failures_at l.bytes) l.initial.failures l.failures l.k
-
-abbrev pub decreases-loop-k : goal.decreases-loop-k
-decreases-loop-k l = 20 - l.k
+invariant-loop-k l = Filled (failures_at l.bytes) l.initial.shot-items l.shot-items l.k

@@ -1,6 +1,0 @@
--- The bit shifted down to the lowest place.
-use Rattle.numbers.proofs.Bits.{and_one}
-use Rattle.pedr_flags.proofs.has_failed.Goals as goal
-
-pub returns : goal.returns
-returns c = simp (and_one, c.u8_at-byte.ensures)
