@@ -96,6 +96,7 @@ fn is_good(number: u32, shot: usize) -> bool
 }
 
 // The quality of a record's bytes.
+#[tactic(auto, unfolding(crate::specs::Quality::quality_of))]
 pub fn read_quality(bytes: &[u8]) -> Quality
     ensures { result ≡ quality_of bytes.now }
 {
@@ -117,6 +118,7 @@ fn has_failed(bytes: &[u8], k: usize) -> bool
 }
 
 // The descriptor of a record's bytes, but for the tests of its shots.
+#[tactic(auto, unfolding(crate::specs::Descriptor::descriptor_of))]
 pub fn read_descriptor(bytes: &[u8]) -> Descriptor
     ensures { result ≡ descriptor_of bytes.now }
 {
@@ -130,6 +132,7 @@ pub fn read_descriptor(bytes: &[u8]) -> Descriptor
 }
 
 // The tests of a shot by a record's bytes.
+#[tactic(auto, unfolding(crate::specs::Descriptor::failures_of))]
 fn read_failures(bytes: &[u8], shot: usize) -> ShotFailures
     requires { (1 ≤ shot) × (shot ≤ shot_count) }
     ensures { result ≡ failures_of bytes.now shot }
