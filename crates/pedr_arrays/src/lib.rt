@@ -2,9 +2,6 @@
 #![tactic(auto)]
 
 ghost use Rattle.std.specs.Prelude.{◌≡◌};
-ghost use Rattle.octets.specs.Table.{nats_at};
-ghost use Rattle.layout.specs.Column.{values};
-ghost use Rattle.pedr_layout.specs.Layout as columns;
 ghost use Rattle.pedr_arrays.specs.Arrays.{classes_of, encoders_of, shot_arrays_of, channel_arrays_of, arrays_of, no_arrays};
 ghost use Rattle.pedr_arrays.specs.Uninterpreted.{uninterpreted_of};
 
@@ -16,7 +13,7 @@ use pedr_layout::{
 };
 
 // The columns of 20 shots; shot s stands at index s - 1.
-#[derive(Clone, Copy)]
+#[derive(Clone, Copy, Default)]
 pub struct ShotArrays {
     pub radius: [u32; SHOTS],
     pub energy: [u16; SHOTS],
@@ -39,7 +36,7 @@ pub struct ChannelArrays {
 }
 
 // The columns of several numbers.
-#[derive(Clone, Copy)]
+#[derive(Clone, Copy, Default)]
 pub struct RecordArrays {
     pub shots: ShotArrays,
     pub channels: ChannelArrays,
@@ -47,34 +44,10 @@ pub struct RecordArrays {
     pub source_header: [u32; 2],
 }
 
-fn read_u16x20(bytes: &[u8], i: usize) -> [u16; SHOTS]
-    ensures { result ≡ nats_at bytes.now i 2 columns.shot_count }
-{
-    let mut numbers = [0u16; SHOTS];
-    octets_runs::read_u16s(bytes, i, &mut numbers);
-    numbers
-}
-
-fn read_u32x20(bytes: &[u8], i: usize) -> [u32; SHOTS]
-    ensures { result ≡ nats_at bytes.now i 4 columns.shot_count }
-{
-    let mut numbers = [0u32; SHOTS];
-    octets_runs::read_u32s(bytes, i, &mut numbers);
-    numbers
-}
-
-fn read_u8x20(bytes: &[u8], i: usize) -> [u8; SHOTS]
-    ensures { result ≡ nats_at bytes.now i 1 columns.shot_count }
-{
-    let mut numbers = [0u8; SHOTS];
-    octets::read_into(bytes, i, &mut numbers);
-    numbers
-}
-
 fn read_classes(bytes: &[u8]) -> [Class; SHOTS]
     ensures { result ≡ classes_of bytes.now }
 {
-    let mut classes = [Class::NoTrigger; SHOTS];
+    let mut classes = [Class::default(); SHOTS];
     for (k, class) in classes.iter_mut().enumerate() {
         *class = Class::from(octets::u16_at(bytes, CLASS_AT + 2 * k));
     }
@@ -84,12 +57,7 @@ fn read_classes(bytes: &[u8]) -> [Class; SHOTS]
 fn read_encoders(bytes: &[u8]) -> [Encoder; SHOTS]
     ensures { result ≡ encoders_of bytes.now }
 {
-    let mut encoders = [Encoder {
-        start: 0,
-        carried_low: 0,
-        stop: 0,
-        carried_high: 0,
-    }; SHOTS];
+    let mut encoders = [Encoder::default(); SHOTS];
     for (k, encoder) in encoders.iter_mut().enumerate() {
         *encoder = Encoder::from(octets::u8_at(bytes, ENCODER_AT + k));
     }
@@ -97,91 +65,56 @@ fn read_encoders(bytes: &[u8]) -> [Encoder; SHOTS]
 }
 
 // The radii last, behind the loops, so that the compiler reads each number by one load.
+#[tactic(auto, unfolding(crate::specs::Arrays::shot_arrays_of))]
 fn read_shot_arrays(bytes: &[u8]) -> ShotArrays
     ensures { result ≡ shot_arrays_of bytes.now }
 {
-    let energy = read_u16x20(bytes, ENERGY_AT);
-    let reflectivity = read_u16x20(bytes, REFLECTIVITY_AT);
-    let trigger_channel = read_u8x20(bytes, TRIGGER_CHANNEL_AT);
-    let pulse_width = read_u16x20(bytes, PULSE_WIDTH_AT);
-    let optical_width = read_u16x20(bytes, OPTICAL_WIDTH_AT);
-    let laser_power = read_u16x20(bytes, LASER_POWER_AT);
-    let class = read_classes(bytes);
-    let encoder = read_encoders(bytes);
-    let failures = pedr_flags::read_all_failures(bytes);
-    let radius = read_u32x20(bytes, RADIUS_AT);
     ShotArrays {
-        radius,
-        energy,
-        reflectivity,
-        trigger_channel,
-        pulse_width,
-        optical_width,
-        laser_power,
-        class,
-        encoder,
-        failures,
+        energy: octets_runs::run(bytes, ENERGY_AT),
+        reflectivity: octets_runs::run(bytes, REFLECTIVITY_AT),
+        trigger_channel: octets_runs::run(bytes, TRIGGER_CHANNEL_AT),
+        pulse_width: octets_runs::run(bytes, PULSE_WIDTH_AT),
+        optical_width: octets_runs::run(bytes, OPTICAL_WIDTH_AT),
+        laser_power: octets_runs::run(bytes, LASER_POWER_AT),
+        class: read_classes(bytes),
+        encoder: read_encoders(bytes),
+        failures: pedr_flags::read_all_failures(bytes),
+        radius: octets_runs::run(bytes, RADIUS_AT),
     }
 }
 
+#[tactic(auto, unfolding(crate::specs::Arrays::channel_arrays_of))]
 fn read_channel_arrays(bytes: &[u8]) -> ChannelArrays
     ensures { result ≡ channel_arrays_of bytes.now }
 {
-    let mut noise = [0u32; 8];
-    octets_runs::read_u32s(bytes, 424, &mut noise);
-    let mut thresholds = [0u16; 8];
-    octets_runs::read_u16s(bytes, 464, &mut thresholds);
-    ChannelArrays { noise, thresholds }
-}
-
-fn read_xyz(bytes: &[u8]) -> [i32; 3]
-    ensures { result ≡ values bytes.now columns.xyz }
-{
-    let x = octets::i32_at(bytes, 324);
-    let y = octets::i32_at(bytes, 328);
-    let z = octets::i32_at(bytes, 332);
-    [x, y, z]
-}
-
-fn read_source_header(bytes: &[u8]) -> [u32; 2]
-    ensures { result ≡ values bytes.now columns.source_header }
-{
-    let mut header = [0u32; 2];
-    octets_runs::read_u32s(bytes, 492, &mut header);
-    header
+    ChannelArrays {
+        noise: octets_runs::run(bytes, 424),
+        thresholds: octets_runs::run(bytes, 464),
+    }
 }
 
 // Reads the arrays of any bytes, also of those that are refused as a record; a byte past the end reads as 0.
+#[tactic(auto, unfolding(crate::specs::Arrays::arrays_of))]
 pub fn read_arrays(bytes: &[u8]) -> RecordArrays
     ensures { result ≡ arrays_of bytes.now }
 {
     RecordArrays {
         shots: read_shot_arrays(bytes),
         channels: read_channel_arrays(bytes),
-        xyz: read_xyz(bytes),
-        source_header: read_source_header(bytes),
+        xyz: octets_runs::run(bytes, 324),
+        source_header: octets_runs::run(bytes, 492),
     }
 }
 
 // Reads the bytes that are not interpreted: record bytes 537 to 620, and then 641 to 776. Any bytes; a byte past the end reads as 0.
+#[tactic(auto, unfolding(crate::specs::Uninterpreted::uninterpreted_of))]
 pub fn read_uninterpreted(bytes: &[u8]) -> [u8; UNINTERPRETED]
     ensures { result ≡ uninterpreted_of bytes.now }
 {
-    let mut uninterpreted = [0u8; UNINTERPRETED];
-    octets_runs_writer::copy_part(
-        bytes,
-        UNINTERPRETED_537_AT,
-        UNINTERPRETED_BEFORE,
-        0,
-        &mut uninterpreted,
-    );
-    octets_runs_writer::copy_part(
-        bytes,
-        UNINTERPRETED_641_AT,
-        UNINTERPRETED - UNINTERPRETED_BEFORE,
-        UNINTERPRETED_BEFORE,
-        &mut uninterpreted,
-    );
+    let mut uninterpreted = [0; UNINTERPRETED];
+    let (before, after) = uninterpreted.split_at_mut(UNINTERPRETED_BEFORE);
+    octets::read_into(bytes, UNINTERPRETED_537_AT, before);
+    octets::read_into(bytes, UNINTERPRETED_641_AT, after);
     uninterpreted
 }
 
@@ -189,37 +122,5 @@ pub fn read_uninterpreted(bytes: &[u8]) -> [u8; UNINTERPRETED]
 pub fn no_arrays() -> RecordArrays
     ensures { result ≡ no_arrays }
 {
-    let shots = ShotArrays {
-        radius: [0; SHOTS],
-        energy: [0; SHOTS],
-        reflectivity: [0; SHOTS],
-        trigger_channel: [0; SHOTS],
-        pulse_width: [0; SHOTS],
-        optical_width: [0; SHOTS],
-        laser_power: [0; SHOTS],
-        class: [Class::NoTrigger; SHOTS],
-        encoder: [Encoder {
-            start: 0,
-            carried_low: 0,
-            stop: 0,
-            carried_high: 0,
-        }; SHOTS],
-        failures: [ShotFailures {
-            power: false,
-            energy: false,
-            range: false,
-            window: false,
-            comparison: false,
-        }; SHOTS],
-    };
-    let channels = ChannelArrays {
-        noise: [0; 8],
-        thresholds: [0; 8],
-    };
-    RecordArrays {
-        shots,
-        channels,
-        xyz: [0; 3],
-        source_header: [0; 2],
-    }
+    RecordArrays::default()
 }
