@@ -1,14 +1,8 @@
--- Two words that grow by a bit of each test from the last shot to the first.
-use Prim.Native.Nat.{◌+◌, ◌*◌, ◌^◌, ◌<◌, ◌≤◌}
-use mathlib.Core.Path.{◌≡◌}
-use Rattle.pedr_flags_writer.proofs.Shots.{column}
+-- The last shots' bits are in both words.
+use Rattle.std.specs.Slice.Iter.{iter_rest}
+use Rattle.std.specs.Iterator.Adapters.{rev_source}
+use Rattle.pedr_flags_writer.proofs.Shots.{Gathered}
 use Rattle.pedr_flags_writer.proofs.shot_words.Given as goal
 
-abbrev pub invariant-loop-k : goal.invariant-loop-k
-invariant-loop-k l = (l.k ≤ 20)
-    × (l.high ≡ column (λ f. f.window) l.failures l.k + column (λ f. f.comparison) l.failures l.k * 2 ^ 20)
-    × (l.low ≡ column (λ f. f.power) l.failures l.k + column (λ f. f.energy) l.failures l.k * 2 ^ 20 + column (λ f. f.range) l.failures l.k * 2 ^ 40)
-    × (l.high < 2 ^ 40) × (l.low < 2 ^ 60)
-
-abbrev pub decreases-loop-k : goal.decreases-loop-k
-decreases-loop-k l = l.k
+abbrev pub invariant-loop-shot : goal.invariant-loop-shot
+invariant-loop-shot l = Gathered l.failures (iter_rest (rev_source l.shot-iterator)) l.high l.low
