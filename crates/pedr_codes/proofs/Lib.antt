@@ -1,2 +1,2 @@
+pub mod Mapped
 pub mod Proper
-pub mod Together

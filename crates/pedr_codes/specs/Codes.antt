@@ -3,16 +3,12 @@ use Rattle.std.specs.Prelude.{◌^◌, Bool, true, ◌&&◌, ltb}
 use Rattle.pedr_flags.specs.declared.Class.{Class}
 use Rattle.pedr_flags.specs.declared.Class.TheVariants.{NoTrigger, ProbableGround, Unassigned}
 use Rattle.pedr_flags.specs.declared.Encoder.{Encoder}
-use Rattle.pedr_arrays.specs.declared.ShotClass.{ShotClass}
 
 -- unassigned is no name for the numbers 0 and 1, since those have names
 abbrev pub is_proper : Class → Bool
 is_proper NoTrigger = true
 is_proper ProbableGround = true
 is_proper (Unassigned n) = ltb 1 n
-
-abbrev pub is_proper_shot : ShotClass → Bool
-is_proper_shot c = is_proper c.class
 
 -- each part of an encoder byte has two bits
 abbrev pub has_two_bits : Encoder → Bool
