@@ -16,7 +16,7 @@ use Rattle.pedr_arrays.specs.declared.ShotArrays.{ShotArrays}
 use Rattle.pedr_arrays.specs.declared.ChannelArrays.{ChannelArrays}
 use Rattle.pedr_arrays.specs.declared.RecordArrays.{RecordArrays}
 use Rattle.pedr_fields.specs.declared.RecordFields.{RecordFields}
-use Rattle.pedr_arrays.specs.Arrays.{shot_class_number}
+use Rattle.pedr_flags.specs.Class.{class_number}
 use Rattle.pedr_segments.specs.Parts.{head_parts, radii_parts, pulse_parts, ground_parts, gate_parts, receiver_parts, link_parts}
 
 -- the columns of each segment
@@ -91,7 +91,7 @@ ground_fits f a lx lp lc =
     run complement 4 3 a.xyz lx
     ▹ run complement 4 2 (f.position.ground_latitude ∷ f.position.ground_longitude ∷ []) refl
     ▹ run unsigned 2 20 a.shots.laser_power lp
-    ▹ run unsigned 2 20 (map shot_class_number a.shots.class) (length-map a.shots.class shot_class_number ∙ lc)
+    ▹ run unsigned 2 20 (map class_number a.shots.class) (length-map a.shots.class class_number ∙ lc)
     ▹ done
 
 pub gate_fits : (f : RecordFields) (c : ChannelArrays) → length c.noise ≡ 8 → length c.thresholds ≡ 8 → Fit (gate_parts f c) gate_columns

@@ -1,7 +1,7 @@
 -- Stores that make up a column between them, or two columns at once.
 use Prim.Native.Nat.{ℕ, ◌+◌, ◌*◌, ◌^◌, ◌<◌, ◌≤◌}
 use mathlib.Core.Path.{◌≡◌, refl, sym, ap, ◌∙◌}
-use mathlib.Core.List.{List, [], ◌∷◌}
+use mathlib.Core.List.{List}
 use native.Mathlib.Omega.{arith}
 use lib.ListN.{length, take, drop, length-drop}
 use lib.Seq.{take_all}
@@ -36,13 +36,6 @@ unfolding descriptor_octets
 descriptor_stored d fs high low t u s n l e g =
     g ∙ ap (λ (z : List ℕ). put z 40 (octets_of 8 low)) e ∙ put_then (octets_of 8 high) s (octets_of 8 low) 32 40 (ap (λ (k : ℕ). 32 + k) (octets_length 8 high))
     ∙ ap (put s 32) (sym (octets_split 8 8 high low l) ∙ ap (octets_of 16) n)
-
--- two numbers of 32 bits, one after the other
-pub pair_stored : (x y : ℕ) (t u s : List ℕ) (i k : ℕ) → i + 4 ≡ k → u ≡ put s i (octets_of 4 x) → t ≡ put u k (octets_of 4 y)
-    → t ≡ put s i (octets_of_all 4 (x ∷ y ∷ []))
-unfolding octets_of_all
-pair_stored x y t u s i k l e g =
-    g ∙ ap (λ (z : List ℕ). put z k (octets_of 4 y)) e ∙ put_then (octets_of 4 x) s (octets_of 4 y) i k l
 
 -- the bytes before and from an index on, copied
 pub front_copied : (x t s : List ℕ) (i n : ℕ) → n ≤ length x → t ≡ put s i (octets_at x 0 n) → t ≡ put s i (take n x)

@@ -6,7 +6,7 @@ use Rattle.pedr_layout.specs.Layout as columns
 use Rattle.pedr_flags.specs.Quality.{good_count}
 use Rattle.pedr_flags_writer.specs.Quality.{quality_bits}
 use Rattle.pedr_flags_writer.specs.Descriptor.{descriptor_octets}
-use Rattle.pedr_arrays.specs.Arrays.{shot_class_number}
+use Rattle.pedr_flags.specs.Class.{class_number}
 use Rattle.pedr_arrays.specs.declared.ShotArrays.{ShotArrays}
 use Rattle.pedr_arrays.specs.declared.ChannelArrays.{ChannelArrays}
 use Rattle.pedr_arrays.specs.declared.RecordArrays.{RecordArrays}
@@ -53,7 +53,7 @@ ground_parts f a =
     holding_all columns.xyz a.xyz
     ∷ holding_all columns.ground (f.position.ground_latitude ∷ f.position.ground_longitude ∷ [])
     ∷ holding_all columns.laser_power a.shots.laser_power
-    ∷ holding_all columns.class (map shot_class_number a.shots.class)
+    ∷ holding_all columns.class (map class_number a.shots.class)
     ∷ []
 
 -- bytes 425 to 480

@@ -1,14 +1,14 @@
 -- Six stores, one for each column.
 use mathlib.Core.Path.{refl}
+use Rattle.layout.proofs.Store.{stop, ◌▸◌, puts_join}
 use Rattle.pedr_segments.specs.Parts.{receiver_parts}
 use Rattle.pedr_segments.proofs.Fits.{receiver_columns, receiver_fits}
-use Rattle.layout.proofs.Store.{stop, ◌▸◌, puts_join}
 use Rattle.pedr_segments.proofs.put_receiver.Goals as goal
 
 pub returns : goal.returns
 returns c =
-    let s = c in
-    puts_join (receiver_parts s.args.fields) receiver_columns 480 492 refl (receiver_fits s.args.fields)
+    let f = c.args.fields.now in
+    puts_join (receiver_parts f) receiver_columns 480 492 refl (receiver_fits f)
     (c.write_u16.ensures
     ▸ c.write_u16-2.ensures
     ▸ c.write_u16-3.ensures
