@@ -1,11 +1,9 @@
 -- Document 01, "The rack": the position of count c and time t is the integer p for which p - (c - c0) is a multiple of 16,384 and 14p
 -- differs from t - t0 by at most 3,600 either way, where c0 and t0 are the anchor's.
-use Rattle.std.specs.Prelude.{ℕ, ◌%◌, ◌≤◌, ◌≡◌, leb, ℤ, pos, nat_abs, ◌+ℤ◌, ◌-ℤ◌, ◌*ℤ◌}
+use Rattle.std.specs.Prelude.{ℕ, ◌%◌, ◌≤◌, ◌≡◌, Option, Some, None, leb, ℤ, pos, nat_abs, ◌+ℤ◌, ◌-ℤ◌, ◌*ℤ◌}
 use Rattle.std.specs.Int.Signed.{shr_z}
 use Rattle.octets.specs.Refusal.{refuse◌unless◌else◌, Said, refused, answered, say}
 use Rattle.position.specs.declared.Anchor.{Anchor}
-use Rattle.position.specs.declared.Located.{Located}
-use Rattle.position.specs.declared.Located.TheVariants.{At, Nowhere}
 
 -- "at most 3,600 either way"
 abbrev pub published_tolerance : ℕ
@@ -31,7 +29,7 @@ fitting counted elapsed tolerance =
 unfoldable pub position : Anchor → ℕ → ℕ → ℕ → Said ℤ
 position anchor c t tolerance = fitting (pos c -ℤ pos anchor.count) (pos t -ℤ pos anchor.time) tolerance
 
--- the number, or the position, that each case of the answer stands for
-abbrev pub located_said : Located → Said ℤ
-located_said (At p) = answered p
-located_said Nowhere = refused 21
+-- the position, or the number where there is none
+abbrev pub position_said : Option ℤ → Said ℤ
+position_said (Some p) = answered p
+position_said None = refused 21

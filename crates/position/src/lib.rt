@@ -1,9 +1,8 @@
 // The position of a packet, from its count and its clock together (document 01, "The rack").
 #![tactic(auto)]
 
-ghost use Rattle.std.specs.Prelude.{◌≡◌, leb, nat_abs};
-ghost use Rattle.std.specs.Int.Signed.{shr_z};
-ghost use Rattle.position.specs.Position.{located_said, position};
+ghost use Rattle.std.specs.Prelude.{◌≡◌};
+ghost use Rattle.position.specs.Position.{position_said, position};
 ghost use Rattle.position.specs.Rule.{Rule};
 
 // How far, in seconds either way, a packet's clock may be from 14 seconds for each position.
@@ -24,43 +23,18 @@ pub struct Anchor {
     pub time: u32,
 }
 
-// The position, negative before the anchor, or that none fits.
-#[derive(Clone, Copy)]
-pub enum Located {
-    At(i64),
-    Nowhere,
-}
-
-// x / 229,376 rounded down.
-fn rounds(x: i64) -> i64
-    ensures { result ≡ shr_z x 229376 }
+// The position of the packet with this count and coarse time, negative before the anchor; none where no position fits.
+pub fn locate(anchor: Anchor, count: u16, time: u32, tolerance: u32) -> Option<i64>
+    ensures { position_said result ≡ position anchor count time tolerance }
 {
-    if x < 0 {
-        -1 - (-1 - x) / ROUND
+    let counted = i64::from(count) - i64::from(anchor.count);
+    let elapsed = i64::from(time) - i64::from(anchor.time);
+    let latest = elapsed + i64::from(tolerance);
+    let p = counted + COUNTS * (latest - SECONDS * counted).div_euclid(ROUND);
+    if (SECONDS * p - elapsed).unsigned_abs() <= u64::from(tolerance) {
+        Some(p)
     } else {
-        x / ROUND
-    }
-}
-
-// Whether x lies from -most to most.
-fn is_within(x: i64, most: u32) -> bool
-    ensures { result ≡ leb (nat_abs x) most }
-{
-    let far = most as i64;
-    -far <= x && x <= far
-}
-
-// The position of the packet with this count and coarse time.
-pub fn locate(anchor: Anchor, count: u16, time: u32, tolerance: u32) -> Located
-    ensures { located_said result ≡ position anchor count time tolerance }
-{
-    let counted = count as i64 - anchor.count as i64;
-    let elapsed = time as i64 - anchor.time as i64;
-    let p = counted + COUNTS * rounds(elapsed + tolerance as i64 - SECONDS * counted);
-    if is_within(SECONDS * p - elapsed, tolerance) {
-        Located::At(p)
-    } else {
-        Located::Nowhere
+        None
     }
 }
 

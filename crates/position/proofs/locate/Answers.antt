@@ -1,145 +1,80 @@
 -- Every step stays in an i64, so that what is computed is what `position` says.
-use mathlib.Core.Path.{◌≡◌, refl, sym, ◌∙◌}
-use native.Mathlib.Omega.{arith}
-use lib.Dec.{leb}
-use lib.IntN.{ℤ, pos, nat_abs, ◌+ℤ◌, ◌-ℤ◌, ◌*ℤ◌}
+use Rattle.std.proofs.Common.{◌≡◌, ℕ, ◌^◌, ◌<◌, ◌≤◌, sym, refl, ap, ◌∙◌, arith, ℤ, pos, negsuc, ◌+ℤ◌, ◌-ℤ◌, ◌*ℤ◌, to_z, of_z, w64}
+use Rattle.std.proofs.lemmas.Int.{ints}
+use Rattle.std.specs.Int.{int_div_euclid}
+use lib.IntN.{nat_abs}
 use lib.Signed.{shr_z}
-use mir.Syntax.{w64}
-use mir.Val.{to_z, of_z}
-use Rattle.numbers.proofs.Ranges.{Range, of_unsigned, of_sum, of_difference, of_multiple, of_floor, in_width, exact, widened, held}
-use Rattle.octets.proofs.Ladder.{pass, fail, say_refused, say_answered}
+use Rattle.octets.proofs.Ladder.{pass_le, fail_le, say_refused, say_answered}
 use Rattle.position.specs.Position.{position}
 use Rattle.position.proofs.locate.Goals as goal
-use Rattle.position.proofs.locate.Goals.{After-is_within}
+use Rattle.position.proofs.locate.Goals.{After-div_euclid, After-unsigned_abs}
 
--- the numbers of the computation, and their ranges
-module _ (k : goal.After-struct_known-1) where
+rounded_down : (x : ℤ) (m : ℕ) → int_div_euclid x (pos m) ≡ shr_z x m
+rounded_down (pos a) m = refl
+rounded_down (negsuc a) m = refl
+
+-- a quotient is no larger than what is divided
+small : (x : ℤ) → nat_abs x < 2 ^ 40 → nat_abs (shr_z x 229376) < 2 ^ 40
+small (pos a) h = omega arith
+small (negsuc a) h = omega arith
+
+module _ (c : After-div_euclid) where
   abbrev counted : ℤ
-  counted = pos k.args.count -ℤ pos k.args.anchor.count
+  counted = pos c.args.count -ℤ pos c.args.anchor.count
 
   abbrev elapsed : ℤ
-  elapsed = pos k.args.time -ℤ pos k.args.anchor.time
-
-  abbrev late : ℤ
-  late = elapsed +ℤ pos k.args.tolerance
+  elapsed = pos c.args.time -ℤ pos c.args.anchor.time
 
   abbrev rest : ℤ
-  rest = late -ℤ pos 14 *ℤ counted
+  rest = elapsed +ℤ pos c.args.tolerance -ℤ pos 14 *ℤ counted
 
   abbrev p : ℤ
   p = counted +ℤ pos 16384 *ℤ shr_z rest 229376
 
-  abbrev apart : ℤ
-  apart = pos 14 *ℤ p -ℤ elapsed
+  rounds_small : nat_abs (shr_z rest 229376) < 2 ^ 40
+  rounds_small = small rest (omega (arith, ints))
 
-  counted_range : Range 4295032832 counted
-  counted_range = of_difference (of_unsigned k.ranges.count) (of_unsigned k.struct_known-1.given.0)
+  rounds_is : c.div_euclid.result ≡ shr_z rest 229376
+  rounds_is =
+      c.div_euclid.ensures ∙ ap (λ (x : ℤ). int_div_euclid x (pos 229376)) (omega (arith, ints)) ∙ rounded_down rest 229376
 
-  elapsed_range : Range 8589934592 elapsed
-  elapsed_range = of_difference (of_unsigned k.ranges.time) (of_unsigned k.struct_known-1.given.1.0)
+  p_is : to_z w64 (of_z w64 (to_z w64 (of_z w64 (to_z w64 (of_z w64 c.from.result) -ℤ to_z w64 (of_z w64 c.from-2.result))) +ℤ to_z w64 (of_z w64 (pos 16384 *ℤ to_z w64 (of_z w64 c.div_euclid.result))))) ≡ p
+  p_is = omega (arith, ints, rounds_is, rounds_small)
 
-  late_range : Range 12884901888 late
-  late_range = of_sum elapsed_range (of_unsigned k.ranges.tolerance)
+  apart_is : to_z w64 (of_z w64 (to_z w64 (of_z w64 (pos 14 *ℤ p)) -ℤ to_z w64 (of_z w64 (to_z w64 (of_z w64 c.from-3.result) -ℤ to_z w64 (of_z w64 c.from-4.result))))) ≡ pos 14 *ℤ p -ℤ elapsed
+  apart_is = omega (arith, ints, rounds_small)
 
-  due_range : Range 60130459648 (pos 14 *ℤ counted)
-  due_range = of_multiple 14 counted_range
+-- what `unsigned_abs` gave
+far_is : (c : After-unsigned_abs) → c.unsigned_abs.result ≡ nat_abs (pos 14 *ℤ p c.before -ℤ elapsed c.before)
+far_is c = c.unsigned_abs.ensures.value ∙ simp (p_is c.before, apart_is c.before)
 
-  rest_range : Range 73015361536 rest
-  rest_range = of_difference late_range due_range
-
-  rounds_range : Range 1196283683405824 (pos 16384 *ℤ shr_z rest 229376)
-  rounds_range = of_multiple 16384 (of_floor 229376 rest_range)
-
-  p_range : Range 1196287978438656 p
-  p_range = of_sum counted_range rounds_range
-
-  p_due_range : Range 16748031698141184 (pos 14 *ℤ p)
-  p_due_range = of_multiple 14 p_range
-
-  apart_range : Range 16748040288075776 apart
-  apart_range = of_difference p_due_range elapsed_range
-
-  -- what the machine computes of the arguments
-  counted_is : to_z w64 (of_z w64 (to_z w64 k.args.count -ℤ to_z w64 k.args.anchor.count)) ≡ counted
-  counted_is = simp (widened w64 tt k.ranges.count, widened w64 tt k.struct_known-1.given.0, exact w64 tt counted_range)
-
-  elapsed_is : to_z w64 (of_z w64 (to_z w64 k.args.time -ℤ to_z w64 k.args.anchor.time)) ≡ elapsed
-  elapsed_is = simp (widened w64 tt k.ranges.time, widened w64 tt k.struct_known-1.given.1.0, exact w64 tt elapsed_range)
-
-  tolerance_is : to_z w64 k.args.tolerance ≡ pos k.args.tolerance
-  tolerance_is = widened w64 tt k.ranges.tolerance
-
--- what `rounds` gave
-rounds_is : (c : goal.After-rounds) → to_z w64 (of_z w64 c.rounds.result) ≡ shr_z (rest c.before.before) 229376
-rounds_is c =
-    let k = c.before.before in
-    held w64 c.rounds.type_inv c.rounds.ensures
-    ∙ simp (elapsed_is k, tolerance_is k, counted_is k, exact w64 tt (late_range k), exact w64 tt (due_range k), exact w64 tt (rest_range k))
-
--- what `is_within` gave
-near_is :
-    (c : After-is_within)
-    → c.is_within.result ≡ leb (nat_abs (apart c.before.before.before)) c.args.tolerance
-near_is c =
-    let k = c.before.before.before in
-    c.is_within.ensures
-    ∙ simp (
-      rounds_is c.before,
-      counted_is k,
-      elapsed_is k,
-      exact w64 tt (rounds_range k),
-      exact w64 tt (p_range k),
-      exact w64 tt (p_due_range k),
-      exact w64 tt (apart_range k),
-    )
-
-pub overflow_sub-counted : goal.overflow_sub-counted
-overflow_sub-counted c = simp (widened w64 tt c.ranges.count, widened w64 tt c.struct_known-1.given.0) (in_width w64 tt (counted_range c))
-
-pub overflow_sub-elapsed : goal.overflow_sub-elapsed
-overflow_sub-elapsed c =
-    simp (widened w64 tt c.ranges.time, widened w64 tt c.struct_known-1.given.1.0) (in_width w64 tt (elapsed_range c.before))
-
-pub overflow_add-elapsed : goal.overflow_add-elapsed
-overflow_add-elapsed c = simp (elapsed_is c.before, tolerance_is c.before) (in_width w64 tt (late_range c.before))
-
-pub overflow_mul-counted : goal.overflow_mul-counted
-overflow_mul-counted c = simp (counted_is c.before) (in_width w64 tt (due_range c.before))
-
-pub overflow_sub-elapsed-2 : goal.overflow_sub-elapsed-2
-overflow_sub-elapsed-2 c =
-    let k = c.before in
-    simp (elapsed_is k, tolerance_is k, counted_is k, exact w64 tt (late_range k), exact w64 tt (due_range k)) (in_width w64 tt (rest_range k))
+pub overflow_sub-latest : goal.overflow_sub-latest
+overflow_sub-latest c = omega (arith, ints)
 
 pub overflow_mul-p : goal.overflow_mul-p
-overflow_mul-p c = simp (rounds_is c) (in_width w64 tt (rounds_range c.before.before))
+overflow_mul-p c = omega (arith, ints, rounds_is c, rounds_small c)
 
 pub overflow_add-p : goal.overflow_add-p
-overflow_add-p c =
-    let k = c.before.before in
-    simp (rounds_is c, counted_is k, exact w64 tt (rounds_range k)) (in_width w64 tt (p_range k))
+overflow_add-p c = omega (arith, ints, rounds_is c, rounds_small c)
 
 pub overflow_mul-p-2 : goal.overflow_mul-p-2
-overflow_mul-p-2 c =
-    let k = c.before.before in
-    simp (rounds_is c, counted_is k, exact w64 tt (rounds_range k), exact w64 tt (p_range k)) (in_width w64 tt (p_due_range k))
+overflow_mul-p-2 c = omega (arith, ints, rounds_is c, rounds_small c)
 
 pub overflow_sub-p : goal.overflow_sub-p
-overflow_sub-p c =
-    let k = c.before.before in
-    simp (rounds_is c, counted_is k, elapsed_is k, exact w64 tt (rounds_range k), exact w64 tt (p_range k), exact w64 tt (p_due_range k))
-    (in_width w64 tt (apart_range k))
+overflow_sub-p c = omega (arith, ints, rounds_is c, rounds_small c)
 
-pub returns-then-is_within : goal.returns-then-is_within
+pub returns-then-unsigned_abs-from : goal.returns-then-unsigned_abs-from
 unfolding position
-returns-then-is_within c =
-    let k = c.before.before.before.before in
-    say_answered _ (p k) _
-    (sym (pass (leb (nat_abs (apart k)) k.args.tolerance) 21 0 0 (sym (near_is c.before) ∙ c.if-is_within.true) refl))
-    (simp (rounds_is c.before.before, counted_is k, exact w64 tt (rounds_range k), exact w64 tt (p_range k)))
+returns-then-unsigned_abs-from c =
+    let u = (goal.at.returns-then-unsigned_abs-from c).After-unsigned_abs in
+    let k = u.before in
+    let near : nat_abs (pos 14 *ℤ p k -ℤ elapsed k) ≤ c.args.tolerance = omega (arith, far_is u) in
+    say_answered _ (p k) _ (sym (pass_le (nat_abs (pos 14 *ℤ p k -ℤ elapsed k)) c.args.tolerance 21 0 0 near refl)) (p_is k)
 
-pub returns-else-is_within : goal.returns-else-is_within
+pub returns-else-unsigned_abs-from : goal.returns-else-unsigned_abs-from
 unfolding position
-returns-else-is_within c =
-    let k = c.before.before.before.before in
-    say_refused 21 _ (p k) (fail (leb (nat_abs (apart k)) k.args.tolerance) 21 0 (sym (near_is c.before) ∙ c.if-is_within.false)) (λ z. omega arith)
+returns-else-unsigned_abs-from c =
+    let u = (goal.at.returns-else-unsigned_abs-from c).After-unsigned_abs in
+    let k = u.before in
+    let far : c.args.tolerance < nat_abs (pos 14 *ℤ p k -ℤ elapsed k) = omega (arith, far_is u) in
+    say_refused 21 _ (p k) (fail_le (nat_abs (pos 14 *ℤ p k -ℤ elapsed k)) c.args.tolerance 21 0 far) (λ z. omega arith)
