@@ -3,17 +3,16 @@
 #![tactic(auto)]
 
 ghost use Rattle.std.specs.Prelude.{◌≡◌, ◌+◌, ◌%◌, ◌^◌};
-ghost use Rattle.numbers.specs.Bit.{clear_bit};
-ghost use Rattle.window.specs.Window.{held_at, some_held, holding, freed, skipped, first_window, no_window, in32_bits, Rotated};
+ghost use Rattle.window.specs.Window.{held_at, some_held, holding, freed, skipped, first_window, in32_bits, Rotated};
 
 // How many positions a window has, and how far from its start the last one is.
 pub const POSITIONS: u32 = 32;
 
 pub const MOST_AHEAD: u32 = POSITIONS - 1;
 
-// The first position of the window, and the marks: bit p mod 32 for position p.
+// The first position of the window, and the marks: bit p mod 32 for position p. The default is all zeros.
 #[repr(C)]
-#[derive(Clone, Copy)]
+#[derive(Clone, Copy, Default)]
 pub struct Window {
     pub start: u32,
     pub marks: u32,
@@ -26,91 +25,69 @@ fn bit_of(p: u32) -> u32
     1u32 << (p % POSITIONS)
 }
 
-// Whether position p is held.
-pub fn is_held(window: Window, p: u32) -> bool
-    ensures { result ≡ held_at window p }
-{
-    if p < window.start {
-        return false;
+impl Window {
+    // The window of an opening: it starts at position 0, which is held.
+    pub fn first() -> Window
+        ensures { result ≡ first_window }
+    {
+        Window { start: 0, marks: 1 }
     }
-    if MOST_AHEAD < p - window.start {
-        return false;
+
+    // Whether position p is held.
+    pub fn is_held(self, p: u32) -> bool
+        ensures { result ≡ held_at self p }
+    {
+        self.start <= p && p - self.start <= MOST_AHEAD && (self.marks >> (p % POSITIONS)) & 1 == 1
     }
-    (window.marks >> (p % POSITIONS)) & 1 == 1
-}
 
-// The marks rotated, so that bit j is that of position start + j.
-fn rotated(window: Window) -> u32
-    ensures { Rotated window result }
-{
-    let k = window.start % POSITIONS;
-    (window.marks >> k) | (window.marks << ((POSITIONS - k) % POSITIONS))
-}
-
-// Whether the first position of the window is held.
-pub fn is_start_held(window: Window) -> bool
-    ensures { result ≡ held_at window window.start }
-{
-    rotated(window) & 1 == 1
-}
-
-// Whether a position at least so far ahead of the start is held: the furthest held has the fewest zeros before it.
-pub fn is_held_ahead(window: Window, least: u32) -> bool
-    ensures { result ≡ some_held window (window.start + least) }
-{
-    if MOST_AHEAD < least {
-        return false;
+    // The marks rotated, so that bit j is that of position start + j.
+    fn rotated(self) -> u32
+        ensures { Rotated self result }
+    {
+        self.marks.rotate_right(self.start)
     }
-    u32::leading_zeros(rotated(window)) + least <= MOST_AHEAD
-}
 
-// The window with position p held too.
-pub fn hold(window: Window, p: u32) -> Window
-    ensures { result ≡ holding window p }
-{
-    Window {
-        start: window.start,
-        marks: window.marks | bit_of(p),
+    // Whether the first position of the window is held.
+    pub fn is_start_held(self) -> bool
+        ensures { result ≡ held_at self self.start }
+    {
+        self.rotated() & 1 == 1
     }
-}
 
-// The marks without that of position p.
-fn unmark(marks: u32, p: u32) -> u32
-    ensures { result ≡ clear_bit marks (p % 32) }
-{
-    marks & !bit_of(p)
-}
-
-// The window once its first position, which may be held, is freed.
-pub fn free(window: Window) -> Window
-    ensures { result ≡ in32_bits (freed window) }
-{
-    Window {
-        start: std::num::wrapping_add_u32(window.start, 1),
-        marks: unmark(window.marks, window.start),
+    // Whether a position at least so far ahead of the start is held: the furthest held has the fewest zeros before it.
+    pub fn is_held_ahead(self, least: u32) -> bool
+        ensures { result ≡ some_held self (self.start + least) }
+    {
+        least <= MOST_AHEAD && self.rotated().leading_zeros() + least <= MOST_AHEAD
     }
-}
 
-// The window once its first position, which isn't held, is passed over.
-pub fn skip(window: Window) -> Window
-    ensures { result ≡ in32_bits (skipped window) }
-{
-    Window {
-        start: std::num::wrapping_add_u32(window.start, 1),
-        marks: window.marks,
+    // The window with position p held too.
+    pub fn hold(self, p: u32) -> Window
+        ensures { result ≡ holding self p }
+    {
+        Window {
+            start: self.start,
+            marks: self.marks | bit_of(p),
+        }
     }
-}
 
-// The window of an opening: it starts at position 0, which is held.
-pub fn first() -> Window
-    ensures { result ≡ first_window }
-{
-    Window { start: 0, marks: 1 }
-}
+    // The window once its first position, which may be held, is freed.
+    pub fn free(self) -> Window
+        ensures { result ≡ in32_bits (freed self) }
+    {
+        Window {
+            start: self.start.wrapping_add(1),
+            marks: self.marks & !bit_of(self.start),
+        }
+    }
 
-// A window of all zeros.
-pub fn none() -> Window
-    ensures { result ≡ no_window }
-{
-    Window { start: 0, marks: 0 }
+    // The window once its first position, which isn't held, is passed over.
+    pub fn skip(self) -> Window
+        ensures { result ≡ in32_bits (skipped self) }
+    {
+        Window {
+            start: self.start.wrapping_add(1),
+            marks: self.marks,
+        }
+    }
 }

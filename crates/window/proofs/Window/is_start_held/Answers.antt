@@ -4,11 +4,11 @@ use Rattle.numbers.specs.Bit.{bit}
 use Rattle.numbers.proofs.Bits.{and_one}
 use Rattle.window.specs.Window.{held_at}
 use Rattle.window.proofs.Furthest.{rotated_held}
-use Rattle.window.proofs.is_start_held.Goals as goal
+use Rattle.window.proofs.Window.is_start_held.Goals as goal
 
 pub returns : goal.returns
 returns c =
-    let w = c.args.window in
+    let w = c.args.self in
     let r = c.rotated.result in
     let lowest : r % 2 ≡ bit r 0 = omega arith in
     let first : w.start + 0 ≡ w.start = omega arith in
