@@ -3,22 +3,18 @@ use Rattle.std.specs.Prelude.{ℕ, zero, suc, ◌+◌, ◌*◌, Bool, true, fals
 use Rattle.octets.specs.Bytes.{part, put}
 use Rattle.packet_layout.specs.Layout.{packet_size}
 use Rattle.reorder_rules.specs.Buffer.{Buffer}
-
--- the packet at a position, a missing position, or Waiting
-pub data Turn : Type 0 where
-  packet : ℕ → Turn
-  missing : ℕ → Turn
-  waiting : Turn
+pub use Rattle.reorder_rules.specs.declared.Turn.{Turn}
+pub use Rattle.reorder_rules.specs.declared.Turn.TheVariants.{Packet, Missing, Waiting}
 
 -- By what is held, and a consumer's next and threshold H: if next is held, its packet; otherwise, if some held position is at least next + H,
 -- Missing next; otherwise Waiting.
 abbrev pub turn_by : (ℕ → Bool) → (ℕ → Bool) → ℕ → ℕ → Turn
-turn_by held some next threshold = cond (held next) (packet next) (cond (some (next + threshold)) (missing next) waiting)
+turn_by held some next threshold = cond (held next) (Packet next) (cond (some (next + threshold)) (Missing next) Waiting)
 
 abbrev pub is_waiting : Turn → Bool
-is_waiting (packet p) = false
-is_waiting (missing p) = false
-is_waiting waiting = true
+is_waiting (Packet p) = false
+is_waiting (Missing p) = false
+is_waiting Waiting = true
 
 -- the bytes of the i-th answer in an output: the 1,080 at 1,080 i
 abbrev pub bytes_at : List ℕ → ℕ → List ℕ
@@ -30,24 +26,24 @@ module _ {S : Type 0} (B : Buffer S) where
 
   -- the session then: a packet given is freed, and next grows by one; so it does where next is missing; Waiting changes nothing
   abbrev pub turned : S → Turn → S
-  turned s (packet p) = B.given s
-  turned s (missing p) = B.missed s
-  turned s waiting = s
+  turned s (Packet p) = B.given s
+  turned s (Missing p) = B.missed s
+  turned s Waiting = s
 
   -- the output then: a packet's bytes stand at 1,080 i
   abbrev pub shown : S → ℕ → List ℕ → List ℕ → Turn → List ℕ
-  shown s i store out (packet p) = put out (packet_size * i) (B.bytes s store p)
-  shown s i store out (missing p) = out
-  shown s i store out waiting = out
+  shown s i store out (Packet p) = put out (packet_size * i) (B.bytes s store p)
+  shown s i store out (Missing p) = out
+  shown s i store out Waiting = out
 
   -- serving until Waiting or the budget is spent: the answers, in order; a closing Waiting is not one of them
   unfoldable pub turns : ℕ → S → List Turn
   turns zero s = []
   turns (suc budget) s =
       elim (turn s) [
-        | packet p ↦ packet p ∷ turns budget (turned s (packet p))
-        | missing p ↦ missing p ∷ turns budget (turned s (missing p))
-        | waiting ↦ []
+        | Packet p ↦ Packet p ∷ turns budget (turned s (Packet p))
+        | Missing p ↦ Missing p ∷ turns budget (turned s (Missing p))
+        | Waiting ↦ []
       ]
 
   -- the session after them

@@ -1,6 +1,14 @@
-// Document 01's rules of the reorder buffer ("The rack"), for any kind of session, and their laws. No code but numbers: each kind of session has
-// its calls in crates of its own.
+// Document 01's rules of the reorder buffer ("The rack"), for any kind of session, and their laws. No code but numbers and the answers of serving: each
+// kind of session has its calls in crates of its own.
 #![tactic(auto)]
+
+// What serving answers: the packet at a position; that a position is missing; or that nothing is to be served yet.
+#[derive(Clone, Copy, Debug, PartialEq, Eq)]
+pub enum Turn {
+    Packet(u32),
+    Missing(u32),
+    Waiting,
+}
 
 // The greatest budget of a drain, and so the most answers that it gives.
 pub const MOST_ANSWERS: usize = window::POSITIONS as usize;
