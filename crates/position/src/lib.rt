@@ -17,7 +17,7 @@ const ROUND: i64 = SECONDS * COUNTS;
 
 // Count and coarse time of the packet that has position 0.
 #[repr(C)]
-#[derive(Clone, Copy)]
+#[derive(Clone, Copy, Default)]
 pub struct Anchor {
     pub count: u32,
     pub time: u32,

@@ -15,7 +15,9 @@ use Rattle.window.specs.Window.{skipped}
 use Rattle.reorder_session.specs.declared.Session.{Session}
 use Rattle.reorder_session.specs.Session.{slot, with_window, single}
 use Rattle.reorder_rules.specs.Outcome.{Outcome, outcome}
-use Rattle.reorder_rules.specs.Turn.{Turn, packet, missing, waiting, bytes_at}
+use Rattle.reorder_rules.specs.declared.Turn.{Turn}
+use Rattle.reorder_rules.specs.declared.Turn.TheVariants.{Packet, Missing, Waiting}
+use Rattle.reorder_rules.specs.Turn.{bytes_at}
 use Rattle.reorder_session.specs.Calls.{turn, turned, shown, turns, turned_all, shown_all, serve_refusal, drain_refusal, pass_refusal}
 use Rattle.reorder_rules.proofs.Ready.{ServeReady, serve_ready, DrainReady, drain_ready}
 use Rattle.reorder_laws.specs.Serves.{answer_at}
@@ -29,9 +31,9 @@ use Rattle.reorder_histories.specs.Histories.{State, step, run, WaitsAfter, NotT
 
 -- what a turn tells, by the bytes of each position
 abbrev pub turn_told : (ℕ → List ℕ) → Turn → List Event
-turn_told bytes (packet p) = gave p (bytes p) ∷ []
-turn_told bytes (missing p) = called_missing p ∷ []
-turn_told bytes waiting = []
+turn_told bytes (Packet p) = gave p (bytes p) ∷ []
+turn_told bytes (Missing p) = called_missing p ∷ []
+turn_told bytes Waiting = []
 
 -- a turn's bytes are those in the store
 abbrev pub turned_by : State → Turn → State
@@ -84,10 +86,10 @@ serve_turns σ out = go (say n (turn s)) refl
     n = serve_refusal s (length σ.store) (length out)
 
     tells_it : ServeReady single σ.session (length σ.store) (length out) → (t : Turn) → turns_tell 0 (t ∷ []) (shown σ.session 0 σ.store out t) ≡ turn_told (slot σ.store) t
-    tells_it r (packet p) =
+    tells_it r (Packet p) =
         ap (λ (b : List ℕ). gave p b ∷ []) (piece_same out (slot σ.store p) 0 (slot_length σ.store p r.store) (omega (arith, r.out)))
-    tells_it r (missing p) = refl
-    tells_it r waiting = refl
+    tells_it r (Missing p) = refl
+    tells_it r Waiting = refl
 
     after : Said Turn → State
     after x =
@@ -110,23 +112,23 @@ turns_told bytes [] = []
 turns_told bytes (t ∷ ts) = turn_told bytes t ++ turns_told bytes ts
 
 -- where the output has each packet's bytes at its number
-pub told_all : (bytes : ℕ → List ℕ) (out : List ℕ) (ts : List Turn) (k : ℕ) → ((i p : ℕ) → answer_at ts i ≡ packet p → bytes_at out (k + i) ≡ bytes p)
+pub told_all : (bytes : ℕ → List ℕ) (out : List ℕ) (ts : List Turn) (k : ℕ) → ((i p : ℕ) → answer_at ts i ≡ Packet p → bytes_at out (k + i) ≡ bytes p)
     → turns_tell k ts out ≡ turns_told bytes ts
 unfolding turns_tell
 told_all bytes out [] k h = refl
 told_all bytes out (t ∷ ts) k h = go t (λ p e. first p e) (told_all bytes out ts (suc k) later)
   where
-    first : (p : ℕ) → t ≡ packet p → bytes_at out k ≡ bytes p
+    first : (p : ℕ) → t ≡ Packet p → bytes_at out k ≡ bytes p
     first p e = let z : k ≡ k + 0 = omega arith in ap (bytes_at out) z ∙ h 0 p e
 
-    later : (i p : ℕ) → answer_at ts i ≡ packet p → bytes_at out (suc k + i) ≡ bytes p
+    later : (i p : ℕ) → answer_at ts i ≡ Packet p → bytes_at out (suc k + i) ≡ bytes p
     later i p e = let z : suc k + i ≡ k + suc i = omega arith in ap (bytes_at out) z ∙ h (suc i) p e
 
-    go : (u : Turn) → ((p : ℕ) → u ≡ packet p → bytes_at out k ≡ bytes p) → turns_tell (suc k) ts out ≡ turns_told bytes ts
+    go : (u : Turn) → ((p : ℕ) → u ≡ Packet p → bytes_at out k ≡ bytes p) → turns_tell (suc k) ts out ≡ turns_told bytes ts
         → turns_tell k (u ∷ ts) out ≡ turn_told bytes u ++ turns_told bytes ts
-    go (packet p) f r = λ i. gave p (f p refl i) ∷ r i
-    go (missing p) f r = ap (λ (l : List Event). called_missing p ∷ l) r
-    go waiting f r = r
+    go (Packet p) f r = λ i. gave p (f p refl i) ∷ r i
+    go (Missing p) f r = ap (λ (l : List Event). called_missing p ∷ l) r
+    go Waiting f r = r
 
 all_turns : (n : ℕ) (σ : State)
     → ByTurns σ (record {

@@ -17,7 +17,8 @@ use Rattle.reorder_session.specs.declared.Session.{Session}
 use Rattle.reorder_session.specs.Session.{with_window, slot_start, slot, single}
 use Rattle.reorder_session.proofs.Whole.{Whole}
 use Rattle.reorder_rules.proofs.Taken.{Taken}
-use Rattle.reorder_rules.specs.Turn.{Turn, packet, missing, waiting}
+use Rattle.reorder_rules.specs.declared.Turn.{Turn}
+use Rattle.reorder_rules.specs.declared.Turn.TheVariants.{Packet, Missing, Waiting}
 use Rattle.reorder_session.specs.Calls.{turn, turned}
 use Rattle.reorder_turn.proofs.Turns.{Shows, shows_packet, shows_missing, shows_waiting, shows}
 use Rattle.reorder_laws.specs.Held.{Holds}
@@ -40,22 +41,22 @@ gave≢missing : (p q : ℕ) (b : List ℕ) → gave p b ≡ called_missing q �
 gave≢missing p q b e = let z : ◌≡◌ {A = ℕ} 0 1 = cc in omega arith
 
 -- what a turn has given, or called missing
-pub told_gave : (bytes : ℕ → List ℕ) (t : Turn) (p : ℕ) (b : List ℕ) → Memᴰ (gave p b) (turn_told bytes t) → (t ≡ packet p) × (bytes p ≡ b)
-told_gave bytes (packet q) p b m =
+pub told_gave : (bytes : ℕ → List ℕ) (t : Turn) (p : ℕ) (b : List ℕ) → Memᴰ (gave p b) (turn_told bytes t) → (t ≡ Packet p) × (bytes p ≡ b)
+told_gave bytes (Packet q) p b m =
     let e : gave p b ≡ gave q (bytes q) = Memᴰ.eq_of_singleton m in
     let i : q ≡ p = cc in
     let j : bytes q ≡ b = cc in
-    (ap packet i, ap bytes (sym i) ∙ j)
-told_gave bytes (missing q) p b m = absurd (gave≢missing p q b (Memᴰ.eq_of_singleton m))
-told_gave bytes waiting p b m = absurd (Memᴰ.not-nil m)
+    (ap Packet i, ap bytes (sym i) ∙ j)
+told_gave bytes (Missing q) p b m = absurd (gave≢missing p q b (Memᴰ.eq_of_singleton m))
+told_gave bytes Waiting p b m = absurd (Memᴰ.not-nil m)
 
-pub told_missing : (bytes : ℕ → List ℕ) (t : Turn) (p : ℕ) → Memᴰ (called_missing p) (turn_told bytes t) → t ≡ missing p
-told_missing bytes (packet q) p m = absurd (gave≢missing q p (bytes q) (sym (Memᴰ.eq_of_singleton m)))
-told_missing bytes (missing q) p m =
+pub told_missing : (bytes : ℕ → List ℕ) (t : Turn) (p : ℕ) → Memᴰ (called_missing p) (turn_told bytes t) → t ≡ Missing p
+told_missing bytes (Packet q) p m = absurd (gave≢missing q p (bytes q) (sym (Memᴰ.eq_of_singleton m)))
+told_missing bytes (Missing q) p m =
     let e : called_missing p ≡ called_missing q = Memᴰ.eq_of_singleton m in
     let i : q ≡ p = cc in
-    ap missing i
-told_missing bytes waiting p m = absurd (Memᴰ.not-nil m)
+    ap Missing i
+told_missing bytes Waiting p m = absurd (Memᴰ.not-nil m)
 
 -- what is still held stays so where it isn't given and its bytes stay
 still_held : (σ v : State) (p : ℕ) (b : List ℕ) (told : List Event) → v.events ≡ σ.events ++ told → ((c : List ℕ) → Memᴰ (gave p c) told → ⊥)
@@ -87,28 +88,28 @@ Has σ p b = Served σ p b ⊎ Holds σ.session σ.store p b
 
 -- positions from the new next on are held as they were
 pub turned_held : (s : Session) (t : Turn) → Shows s t → (p : ℕ) → (turned s t).window.start ≤ p → held_at (turned s t).window p ≡ held_at s.window p
-turned_held s (packet n) (shows_packet e) p l = freed_held s.window p (omega arith)
-turned_held s (missing n) (shows_missing e q h k) p l = skipped_held s.window p e (omega arith)
-turned_held s waiting (shows_waiting e n) p l = refl
+turned_held s (Packet n) (shows_packet e) p l = freed_held s.window p (omega arith)
+turned_held s (Missing n) (shows_missing e q h k) p l = skipped_held s.window p e (omega arith)
+turned_held s Waiting (shows_waiting e n) p l = refl
 
 pub turned_next : (s : Session) (t : Turn) → (s.window.start ≤ (turned s t).window.start) × ((turned s t).window.start ≤ s.window.start + 1)
-turned_next s (packet n) = (omega arith, omega arith)
-turned_next s (missing n) = (omega arith, omega arith)
-turned_next s waiting = (omega arith, omega arith)
+turned_next s (Packet n) = (omega arith, omega arith)
+turned_next s (Missing n) = (omega arith, omega arith)
+turned_next s Waiting = (omega arith, omega arith)
 
 -- what a turn gives was next, and isn't any more
-gives_next : (s : Session) (t : Turn) → Shows s t → (p : ℕ) → t ≡ packet p → p < (turned s t).window.start
-gives_next s (packet n) (shows_packet e) p i = let j : s.window.start ≡ p = cc in omega arith
-gives_next s (missing n) (shows_missing e q h k) p i = let z : ◌≡◌ {A = ℕ} 0 1 = cc in absurd (omega arith)
-gives_next s waiting (shows_waiting e n) p i = let z : ◌≡◌ {A = ℕ} 0 1 = cc in absurd (omega arith)
+gives_next : (s : Session) (t : Turn) → Shows s t → (p : ℕ) → t ≡ Packet p → p < (turned s t).window.start
+gives_next s (Packet n) (shows_packet e) p i = let j : s.window.start ≡ p = cc in omega arith
+gives_next s (Missing n) (shows_missing e q h k) p i = let z : ◌≡◌ {A = ℕ} 0 1 = cc in absurd (omega arith)
+gives_next s Waiting (shows_waiting e n) p i = let z : ◌≡◌ {A = ℕ} 0 1 = cc in absurd (omega arith)
 
 -- a turn serves next, calls it missing, or leaves it
 settles : (σ : State) (t : Turn) → Shows σ.session t → (p : ℕ) → p ≡ σ.session.window.start → p < (turned σ.session t).window.start
     → ((b : List ℕ) × Served (turned_by σ t) p b) ⊎ CalledMissing (turned_by σ t) p
-settles σ (packet n) (shows_packet e) p i l =
+settles σ (Packet n) (shows_packet e) p i l =
     inl (slot σ.store p, Memᴰ.append_right σ.events (Memᴰ.head (ap (λ (q : ℕ). gave q (slot σ.store q)) i)))
-settles σ (missing n) (shows_missing e q h k) p i l = inr (Memᴰ.append_right σ.events (Memᴰ.head (ap called_missing i)))
-settles σ waiting (shows_waiting e n) p i l = absurd (omega arith)
+settles σ (Missing n) (shows_missing e q h k) p i l = inr (Memᴰ.append_right σ.events (Memᴰ.head (ap called_missing i)))
+settles σ Waiting (shows_waiting e n) p i l = absurd (omega arith)
 
 module _ (σ : State) (bf : Buffer σ) where
   pub buffer_turned : Buffer (turned_once σ)
@@ -149,11 +150,11 @@ module _ (σ : State) (bf : Buffer σ) where
   has_turned p b (inl m) = inl (Memᴰ.append_left (told_by σ) m)
   has_turned p b (inr h) = go (turn_gives σ.session σ.store p b h)
     where
-      given : (u : Turn) → u ≡ packet p → Memᴰ (gave p b) (turn_told (slot σ.store) u)
+      given : (u : Turn) → u ≡ Packet p → Memᴰ (gave p b) (turn_told (slot σ.store) u)
       given u e =
           subst (λ (v : Turn). Memᴰ (gave p b) (turn_told (slot σ.store) v)) (sym e) (Memᴰ.head (ap (gave p) (sym h.bytes)))
 
-      go : Holds (one_turn σ.session) σ.store p b ⊎ (turn σ.session ≡ packet p) → Has (turned_once σ) p b
+      go : Holds (one_turn σ.session) σ.store p b ⊎ (turn σ.session ≡ Packet p) → Has (turned_once σ) p b
       go (inl k) = inr k
       go (inr e) = inl (Memᴰ.append_right σ.events (given (turn σ.session) e))
 

@@ -11,7 +11,8 @@ use Rattle.window.specs.Window.{held_at}
 use Rattle.window.proofs.Held.{held_least}
 use Rattle.reorder_session.specs.declared.Session.{Session}
 use Rattle.reorder_session.specs.Session.{slot}
-use Rattle.reorder_rules.specs.Turn.{Turn, packet, missing, waiting}
+use Rattle.reorder_rules.specs.declared.Turn.{Turn}
+use Rattle.reorder_rules.specs.declared.Turn.TheVariants.{Packet, Missing, Waiting}
 use Rattle.reorder_session.specs.Calls.{turn, turned}
 use Rattle.reorder_turn.proofs.Turns.{Shows, shows_packet, shows_missing, shows_waiting, shows}
 use Rattle.reorder_laws.proofs.Kept.{keeps_turned}
@@ -49,13 +50,13 @@ stays_below : (f : ℕ) (σ : State) → σ.session.window.start ≤ f → Quiet
 stays_below f σ l quiet = go (turn σ.session) (shows σ.session) (dec_lt σ.session.window.start f)
   where
     go : (t : Turn) → Shows σ.session t → Dec (σ.session.window.start < f) → (turned σ.session t).window.start ≤ f
-    go (packet n) (shows_packet h) (yes k) = omega arith
-    go (packet n) (shows_packet h) (no m) =
+    go (Packet n) (shows_packet h) (yes k) = omega arith
+    go (Packet n) (shows_packet h) (no m) =
         let e : σ.session.window.start ≡ f = omega arith in
         absurd (true≢false (sym h ∙ ap (held_at σ.session.window) e ∙ quiet.free))
-    go (missing n) (shows_missing h q k g) (yes i) = omega arith
-    go (missing n) (shows_missing h q k g) (no m) = absurd (quiet.near q k (omega arith))
-    go waiting (shows_waiting h n) d = l
+    go (Missing n) (shows_missing h q k g) (yes i) = omega arith
+    go (Missing n) (shows_missing h q k g) (no m) = absurd (quiet.near q k (omega arith))
+    go Waiting (shows_waiting h n) d = l
 
 -- at the end
 pub nothing_lost : (f : ℕ) (a b : State) → Link f a b → NothingLost a b
@@ -87,10 +88,10 @@ alike_b s t k =
 -- ---- the one with the lower threshold takes a turn
 
 -- what a turn gives is next, and was held
-pub gave_held : (s : Session) (t : Turn) → Shows s t → (p : ℕ) → t ≡ packet p → (s.window.start ≡ p) × (held_at s.window p ≡ true)
-gave_held s (packet n) (shows_packet h) p e = let i : s.window.start ≡ p = cc in (i, ap (held_at s.window) (sym i) ∙ h)
-gave_held s (missing n) (shows_missing h q k l) p e = let z : ◌≡◌ {A = ℕ} 0 1 = cc in absurd (omega arith)
-gave_held s waiting (shows_waiting h n) p e = let z : ◌≡◌ {A = ℕ} 0 1 = cc in absurd (omega arith)
+pub gave_held : (s : Session) (t : Turn) → Shows s t → (p : ℕ) → t ≡ Packet p → (s.window.start ≡ p) × (held_at s.window p ≡ true)
+gave_held s (Packet n) (shows_packet h) p e = let i : s.window.start ≡ p = cc in (i, ap (held_at s.window) (sym i) ∙ h)
+gave_held s (Missing n) (shows_missing h q k l) p e = let z : ◌≡◌ {A = ℕ} 0 1 = cc in absurd (omega arith)
+gave_held s Waiting (shows_waiting h n) p e = let z : ◌≡◌ {A = ℕ} 0 1 = cc in absurd (omega arith)
 
 module _ (f : ℕ) (a b : State) (lk : Link f a b) where
   -- b has what a gives
@@ -167,11 +168,11 @@ module _ (f : ℕ) (a b : State) (lk : Link f a b) where
 -- ---- the one with the higher threshold takes a turn
 
 -- what a turn calls missing is next, and was not held
-missed : (s : Session) (t : Turn) → Shows s t → (p : ℕ) → t ≡ missing p
+missed : (s : Session) (t : Turn) → Shows s t → (p : ℕ) → t ≡ Missing p
     → (s.window.start ≡ p) × (held_at s.window p ≡ false) × (p < (turned s t).window.start)
-missed s (packet n) (shows_packet h) p e = let z : ◌≡◌ {A = ℕ} 0 1 = cc in absurd (omega arith)
-missed s (missing n) (shows_missing h q k l) p e = let i : s.window.start ≡ p = cc in (i, ap (held_at s.window) (sym i) ∙ h, omega arith)
-missed s waiting (shows_waiting h n) p e = let z : ◌≡◌ {A = ℕ} 0 1 = cc in absurd (omega arith)
+missed s (Packet n) (shows_packet h) p e = let z : ◌≡◌ {A = ℕ} 0 1 = cc in absurd (omega arith)
+missed s (Missing n) (shows_missing h q k l) p e = let i : s.window.start ≡ p = cc in (i, ap (held_at s.window) (sym i) ∙ h, omega arith)
+missed s Waiting (shows_waiting h n) p e = let z : ◌≡◌ {A = ℕ} 0 1 = cc in absurd (omega arith)
 
 module _ (f : ℕ) (a b : State) (lk : Link f a b) (quiet : Quiet f a) where
   -- from the frontier on b holds what a does, and its threshold is no lower
@@ -186,7 +187,7 @@ module _ (f : ℕ) (a b : State) (lk : Link f a b) (quiet : Quiet f a) where
   b_below = stays_below f b lk.next_b quiet_too
 
   -- what b calls missing it neither gave nor holds, so a has called it missing
-  missing_a : (p : ℕ) → turn b.session ≡ missing p → CalledMissing a p
+  missing_a : (p : ℕ) → turn b.session ≡ Missing p → CalledMissing a p
   missing_a p e =
       let m = missed b.session (turn b.session) (shows b.session) p e in
       go m.0 m.1 (omega (arith, m.2, b_below)) (dec_lt p a.session.window.start)

@@ -6,7 +6,7 @@ use Rattle.octets.specs.Refusal.{Said}
 use Rattle.reorder_rules.specs.Outcome.{Outcome, ComesTo}
 use Rattle.reorder_rules.specs.Buffer.{Buffer}
 use Rattle.reorder_rules.specs.Offer.{offer_of}
-use Rattle.reorder_rules.specs.Turn.{Turn}
+use Rattle.reorder_rules.specs.declared.Turn.{Turn}
 use Rattle.reorder_rules.specs.Serve.{serve_of, drain_of}
 use Rattle.reorder_rules.specs.Pass.{pass_of}
 use Rattle.reorder_rules.specs.Promises.{Offers, Serves, Drains, Passes}

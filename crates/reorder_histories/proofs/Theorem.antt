@@ -19,7 +19,8 @@ use Rattle.reorder_session.specs.declared.Session.{Session}
 use Rattle.reorder_session.specs.Session.{slot}
 use Rattle.reorder_offer.specs.Opening.{opened, open_due, open_of}
 use Rattle.reorder_rules.proofs.Said.{left}
-use Rattle.reorder_rules.specs.Turn.{Turn, packet, missing, waiting}
+use Rattle.reorder_rules.specs.declared.Turn.{Turn}
+use Rattle.reorder_rules.specs.declared.Turn.TheVariants.{Packet, Missing, Waiting}
 use Rattle.reorder_session.specs.Calls.{turn, turned, shown, serve_refusal}
 use Rattle.reorder_turn.proofs.Turns.{Shows, shows_packet, shows_missing, shows_waiting, shows}
 use Rattle.reorder_session.proofs.Whole.{Whole, whole}
@@ -36,21 +37,21 @@ use Rattle.reorder_histories.proofs.Offers.{link_offer}
 
 -- ---- a buffer that waits
 
-waits_turn : (σ : State) → Waits σ → turn σ.session ≡ waiting
+waits_turn : (σ : State) → Waits σ → turn σ.session ≡ Waiting
 unfolding Serve-rules.serve_of
 waits_turn σ q =
     let s = σ.session in
     let n = serve_refusal s (length σ.store) (length q.out) in
-    let l = left (say n (turn s)) s q.out (turned s) (shown s 0 σ.store q.out) waiting q.answers in
-    sym (answer_said n (turn s) waiting (sym l.answer)).1
+    let l = left (say n (turn s)) s q.out (turned s) (shown s 0 σ.store q.out) Waiting q.answers in
+    sym (answer_said n (turn s) Waiting (sym l.answer)).1
 
 waits_quiet : (f : ℕ) (a b : State) → Link f a b → Waits a → Quiet f a
 waits_quiet f a b lk q = go (turn a.session) (shows a.session) (waits_turn a q)
   where
-    go : (t : Turn) → Shows a.session t → t ≡ waiting → Quiet f a
-    go (packet p) (shows_packet h) e = let z : ◌≡◌ {A = ℕ} 0 1 = cc in absurd (omega arith)
-    go (missing p) (shows_missing h r k l) e = let z : ◌≡◌ {A = ℕ} 0 1 = cc in absurd (omega arith)
-    go waiting (shows_waiting h n) e =
+    go : (t : Turn) → Shows a.session t → t ≡ Waiting → Quiet f a
+    go (Packet p) (shows_packet h) e = let z : ◌≡◌ {A = ℕ} 0 1 = cc in absurd (omega arith)
+    go (Missing p) (shows_missing h r k l) e = let z : ◌≡◌ {A = ℕ} 0 1 = cc in absurd (omega arith)
+    go Waiting (shows_waiting h n) e =
         let i : f ≡ a.session.window.start = at_frontier f a b lk h in
         record { free = ap (held_at a.session.window) i ∙ h; near = λ r k m. n r k (omega arith) }
 

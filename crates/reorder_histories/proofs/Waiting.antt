@@ -16,7 +16,8 @@ use Rattle.window.proofs.Held.{held_least, held_most, none_held}
 use Rattle.reorder_session.specs.declared.Session.{Session}
 use Rattle.reorder_session.specs.Session.{single}
 use Rattle.reorder_rules.proofs.Said.{said_is}
-use Rattle.reorder_rules.specs.Turn.{Turn, waiting}
+use Rattle.reorder_rules.specs.declared.Turn.{Turn}
+use Rattle.reorder_rules.specs.declared.Turn.TheVariants.{Waiting}
 use Rattle.reorder_session.specs.Calls.{turn, turns, turned_all, shown_all, serve_of, drain_of, drain_refusal}
 use Rattle.reorder_rules.proofs.Turns.{turn_waiting, one_more, moves_or, Moves, turns_stop, turns_more}
 use Rattle.reorder_turn.proofs.Turns.{shows}
@@ -32,16 +33,16 @@ use Rattle.reorder_histories.proofs.Buffer.{turned_held}
 use Rattle.reorder_histories.proofs.Theorem.{opened_size, higher_threshold_loses_nothing}
 
 -- after as many turns as reach past all that is held, nothing is
-past_all : (n : ℕ) (s : Session) → ((q : ℕ) → held_at s.window q ≡ true → q < s.window.start + n) → turn (turned_all s (turns n s)) ≡ waiting
+past_all : (n : ℕ) (s : Session) → ((q : ℕ) → held_at s.window q ≡ true → q < s.window.start + n) → turn (turned_all s (turns n s)) ≡ Waiting
 unfolding Turn-rules.turns Turn-rules.turned_all
 past_all zero s h =
     turn_waiting single s (not_then_false (held_at s.window s.window.start) (λ e. omega (arith, h s.window.start e)))
     (none_held s.window (s.window.start + s.threshold) (λ q e l. omega (arith, h q e, held_least s.window q e)))
 past_all (suc n) s h = go (moves_or (turn s)) (past_all n (one_turn s))
   where
-    go : (turn s ≡ waiting) ⊎ Moves (turn s)
-        → (((q : ℕ) → held_at (one_turn s).window q ≡ true → q < (one_turn s).window.start + n) → turn (turned_all (one_turn s) (turns n (one_turn s))) ≡ waiting)
-        → turn (turned_all s (turns (suc n) s)) ≡ waiting
+    go : (turn s ≡ Waiting) ⊎ Moves (turn s)
+        → (((q : ℕ) → held_at (one_turn s).window q ≡ true → q < (one_turn s).window.start + n) → turn (turned_all (one_turn s) (turns n (one_turn s))) ≡ Waiting)
+        → turn (turned_all s (turns (suc n) s)) ≡ Waiting
     go (inl e) r = ap (λ (ts : List Turn). turn (turned_all s ts)) (turns_stop single (suc n) s e) ∙ e
     go (inr k) r =
         ap (λ (ts : List Turn). turn (turned_all s ts)) (turns_more single n s (turn s) refl k)
@@ -59,7 +60,7 @@ drained_waits σ out ts e =
     let same : (drain_of s out σ.store whole_budget).session ≡ t = d.session ∙ ap (turned_all s) d.all in
     let v : Whole t = whole t ((keeps_turns whole_budget s).unbroken (unbroken s (whole_fit s d.ready.fit))) in
     let f = fine σ.store d.ready.store out (omega (arith, d.ready.out)) t v in
-    let all : turn t ≡ waiting = past_all whole_budget s (λ q h. omega (arith, held_most s.window q h)) in
+    let all : turn t ≡ Waiting = past_all whole_budget s (λ q h. omega (arith, held_most s.window q h)) in
     record {
       out = out;
       room = omega (arith, d.ready.out);

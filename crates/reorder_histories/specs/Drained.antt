@@ -3,7 +3,7 @@
 use Rattle.std.specs.Prelude.{ℕ, ◌≤◌, ◌≡◌, List, [], ◌∷◌, map, length}
 use Rattle.octets.specs.Refusal.{answered}
 use Rattle.reorder_rules.specs.Sizes.{positions, store_size}
-use Rattle.reorder_rules.specs.Turn.{Turn}
+use Rattle.reorder_rules.specs.declared.Turn.{Turn}
 use Rattle.reorder_session.specs.Calls.{drain_of}
 use Rattle.reorder_histories.specs.History.{Call, offer, serve, drain, pass}
 use Rattle.reorder_histories.specs.Histories.{State, step, Waits, NotTooFar, Consumer, opening, at_start, at_end, NothingLost}

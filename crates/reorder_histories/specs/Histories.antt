@@ -4,7 +4,7 @@ use Rattle.std.specs.Prelude.{ℕ, ◌≤◌, ◌≡◌, Bool, true, false, List
 use Rattle.octets.specs.Refusal.{refused, answered}
 use Rattle.packet_layout.specs.Layout.{packet_size}
 use Rattle.reorder_rules.specs.Outcome.{Outcome}
-use Rattle.reorder_rules.specs.Turn.{waiting}
+use Rattle.reorder_rules.specs.declared.Turn.TheVariants.{Waiting}
 use Rattle.reorder_session.specs.declared.Session.{Session}
 use Rattle.reorder_session.specs.Session.{single}
 use Rattle.reorder_session.specs.Calls.{offer_of, serve_of, pass_of}
@@ -29,7 +29,7 @@ run = History-rules.run single
 pub record Waits (σ : State) : Type 0 where
   pub out : List ℕ
   pub room : packet_size ≤ length out
-  pub answers : (serve_of σ.session out σ.store).said ≡ answered waiting
+  pub answers : (serve_of σ.session out σ.store).said ≡ answered Waiting
 
 -- "After each offer, serves and drains follow until the rack waits … Before the first offer there may be some or none."
 -- So the buffer waits wherever the next offer or the end comes after an offer; `offered` says that there has been one.

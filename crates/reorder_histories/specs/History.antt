@@ -5,7 +5,9 @@ use Rattle.octets.specs.Refusal.{Said, refused, answered}
 use Rattle.reorder_rules.specs.Outcome.{Outcome, ComesTo}
 use Rattle.reorder_rules.specs.Buffer.{Buffer}
 use Rattle.reorder_rules.specs.Offer.{offer_of}
-use Rattle.reorder_rules.specs.Turn.{Turn, packet, missing, waiting, bytes_at}
+use Rattle.reorder_rules.specs.declared.Turn.{Turn}
+use Rattle.reorder_rules.specs.declared.Turn.TheVariants.{Packet, Missing, Waiting}
+use Rattle.reorder_rules.specs.Turn.{bytes_at}
 use Rattle.reorder_rules.specs.Serve.{serve_of, drain_of}
 use Rattle.reorder_rules.specs.Pass.{pass_of}
 use Rattle.reorder_rules.specs.Promises.{Offers, Serves, Drains, Passes}
@@ -45,9 +47,9 @@ offer_tells (answered p) b = took p b ∷ []
 -- The answers from the one numbered i on; its bytes stand at 1,080 i of the output.
 unfoldable pub turns_tell : ℕ → List Turn → List ℕ → List Event
 turns_tell i [] out = []
-turns_tell i (packet p ∷ ts) out = gave p (bytes_at out i) ∷ turns_tell (suc i) ts out
-turns_tell i (missing p ∷ ts) out = called_missing p ∷ turns_tell (suc i) ts out
-turns_tell i (waiting ∷ ts) out = turns_tell (suc i) ts out
+turns_tell i (Packet p ∷ ts) out = gave p (bytes_at out i) ∷ turns_tell (suc i) ts out
+turns_tell i (Missing p ∷ ts) out = called_missing p ∷ turns_tell (suc i) ts out
+turns_tell i (Waiting ∷ ts) out = turns_tell (suc i) ts out
 
 abbrev pub serve_tells : Said Turn → List ℕ → List Event
 serve_tells (refused n) out = []

@@ -17,7 +17,8 @@ use Rattle.reorder_session.specs.declared.Session.{Session}
 use Rattle.reorder_session.specs.Session.{with_window, single}
 use Rattle.reorder_session.specs.Calls.{offer_due, turn, turned, shown, serve_refusal, serve_of, pass_refusal, pass_of}
 use Rattle.reorder_rules.proofs.Said.{said_is, left}
-use Rattle.reorder_rules.specs.Turn.{Turn, packet, missing, waiting}
+use Rattle.reorder_rules.specs.declared.Turn.{Turn}
+use Rattle.reorder_rules.specs.declared.Turn.TheVariants.{Packet, Missing, Waiting}
 use Rattle.reorder_turn.proofs.Turns.{Shows, shows_packet, shows_missing, shows_waiting, shows}
 use Rattle.reorder_rules.proofs.Free.{offered_near}
 use Rattle.reorder_rules.proofs.Ready.{serve_ready, pass_ready}
@@ -41,28 +42,28 @@ takes_again t store p v size e free =
 
 -- t gives p, or calls it missing
 abbrev Gone : Turn → ℕ → Type 0
-Gone t p = (t ≡ packet p) ⊎ (t ≡ missing p)
+Gone t p = (t ≡ Packet p) ⊎ (t ≡ Missing p)
 
-of_packet : (n p : ℕ) → Gone (packet n) p → n ≡ p
+of_packet : (n p : ℕ) → Gone (Packet n) p → n ≡ p
 of_packet n p (inl e) = cc
 of_packet n p (inr e) = let z : ◌≡◌ {A = ℕ} 0 1 = cc in absurd (omega arith)
 
-of_missing : (n p : ℕ) → Gone (missing n) p → n ≡ p
+of_missing : (n p : ℕ) → Gone (Missing n) p → n ≡ p
 of_missing n p (inl e) = let z : ◌≡◌ {A = ℕ} 0 1 = cc in absurd (omega arith)
 of_missing n p (inr e) = cc
 
-not_waiting : (p : ℕ) → Gone waiting p → ⊥
+not_waiting : (p : ℕ) → Gone Waiting p → ⊥
 not_waiting p (inl e) = let z : ◌≡◌ {A = ℕ} 0 1 = cc in omega arith
 not_waiting p (inr e) = let z : ◌≡◌ {A = ℕ} 0 1 = cc in omega arith
 
 moved_on : (s : Session) (p : ℕ) (t : Turn) → Shows s t → Gone t p → ((turned s t).window.start ≡ p + 1) × (held_at (turned s t).window (p + 32) ≡ false)
-moved_on s p (packet q) (shows_packet e) g =
+moved_on s p (Packet q) (shows_packet e) g =
     let i : s.window.start ≡ p = of_packet _ p g in
     (ap (λ (k : ℕ). k + 1) i, freed_held s.window (p + 32) (omega arith) ∙ held_above s.window (p + 32) (omega arith))
-moved_on s p (missing q) (shows_missing e r f l) g =
+moved_on s p (Missing q) (shows_missing e r f l) g =
     let i : s.window.start ≡ p = of_missing _ p g in
     (ap (λ (k : ℕ). k + 1) i, skipped_held s.window (p + 32) e (omega arith) ∙ held_above s.window (p + 32) (omega arith))
-moved_on s p waiting (shows_waiting e n) g = absurd (not_waiting p g)
+moved_on s p Waiting (shows_waiting e n) g = absurd (not_waiting p g)
 
 after_serve : (s : Session) (out store : List ℕ) (p : ℕ) (t : Turn) → (serve_of s out store).said ≡ answered t → Gone t p → TakesAgain (serve_of s out store).session store p
 unfolding Serve-rules.serve_of
@@ -95,7 +96,7 @@ after_pass s store p e size =
 pub room_is_used_again : RoomIsUsedAgain
 room_is_used_again =
     record {
-      after_packet = λ s out store p e. after_serve s out store p (packet p) e (inl refl);
-      after_missing = λ s out store p e. after_serve s out store p (missing p) e (inr refl);
+      after_packet = λ s out store p e. after_serve s out store p (Packet p) e (inl refl);
+      after_missing = λ s out store p e. after_serve s out store p (Missing p) e (inr refl);
       after_pass = after_pass;
     }

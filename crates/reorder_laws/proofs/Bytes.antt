@@ -23,7 +23,9 @@ use Rattle.reorder_session.specs.Calls.{offer_due, offer_of, turn, turned, shown
 use Rattle.reorder_offer.specs.Opening.{open_due, open_of}
 use Rattle.reorder_rules.proofs.Said.{outcome_cases, left, left_refused}
 use Rattle.reorder_rules.proofs.Taken.{Taken, taken_offer}
-use Rattle.reorder_rules.specs.Turn.{Turn, packet, missing, waiting, bytes_at}
+use Rattle.reorder_rules.specs.declared.Turn.{Turn}
+use Rattle.reorder_rules.specs.declared.Turn.TheVariants.{Packet, Missing, Waiting}
+use Rattle.reorder_rules.specs.Turn.{bytes_at}
 use Rattle.reorder_rules.proofs.Turns.{Split, turns_split}
 use Rattle.reorder_turn.proofs.Turns.{Shows, shows_packet, shows_missing, shows_waiting, shows}
 use Rattle.reorder_rules.proofs.Ready.{serve_ready, pass_ready}
@@ -89,17 +91,17 @@ module _ (s : Session) (store : List ℕ) (p : ℕ) (b : List ℕ) (h : Holds s 
       record { held = skipped_held s.window p e (omega (arith, least, n)) ∙ h.held; bytes = h.bytes }
 
   -- a turn keeps it, or gives it
-  pub turn_gives : Holds (turned s (turn s)) store p b ⊎ (turn s ≡ packet p)
+  pub turn_gives : Holds (turned s (turn s)) store p b ⊎ (turn s ≡ Packet p)
   turn_gives = go (turn s) (shows s)
     where
-      go : (t : Turn) → Shows s t → Holds (turned s t) store p b ⊎ (t ≡ packet p)
-      go (packet q) (shows_packet e) = by (ℕ_discrete p s.window.start)
+      go : (t : Turn) → Shows s t → Holds (turned s t) store p b ⊎ (t ≡ Packet p)
+      go (Packet q) (shows_packet e) = by (ℕ_discrete p s.window.start)
         where
-          by : Dec (p ≡ s.window.start) → Holds (with_window s (freed s.window)) store p b ⊎ (packet s.window.start ≡ packet p)
-          by (yes i) = inr (ap packet (sym i))
+          by : Dec (p ≡ s.window.start) → Holds (with_window s (freed s.window)) store p b ⊎ (Packet s.window.start ≡ Packet p)
+          by (yes i) = inr (ap Packet (sym i))
           by (no n) = inl (record { held = freed_held s.window p (omega (arith, least, n)) ∙ h.held; bytes = h.bytes })
-      go (missing q) (shows_missing e r f l) = inl (passed_over e)
-      go waiting (shows_waiting e n) = inl h
+      go (Missing q) (shows_missing e r f l) = inl (passed_over e)
+      go Waiting (shows_waiting e n) = inl h
 
 offer_keeps : (s : Session) (store : List ℕ) (p : ℕ) (b c : List ℕ) → Holds s store p b → Holds (offer_of s store c).session (offer_of s store c).bytes p b
 unfolding Offer-rules.offer_of
@@ -128,14 +130,14 @@ serve_gives s out store p b h = go (serve_of s out store).said refl
         inl (subst (λ (u : Session). Holds u store p b) (sym l.0) h)
     go (answered t) e = by (turn_gives s store p b h)
       where
-        by : Holds (turned s (turn s)) store p b ⊎ (turn s ≡ packet p) → Holds (serve_of s out store).session store p b ⊎ GivenBy s out store p b
+        by : Holds (turned s (turn s)) store p b ⊎ (turn s ≡ Packet p) → Holds (serve_of s out store).session store p b ⊎ GivenBy s out store p b
         by k =
             let l = left (say n (turn s)) s out (turned s) (shown s 0 store out) t e in
             let a = answer_said n (turn s) t (sym l.answer) in
             let r = serve_ready single s (length store) (length out) a.0 in
             ⊎_elim
             (λ (i : Holds (turned s (turn s)) store p b). inl (subst (λ (u : Session). Holds u store p b) (sym (l.session ∙ ap (turned s) a.1)) i))
-            (λ (i : turn s ≡ packet p).
+            (λ (i : turn s ≡ Packet p).
             inr (record {
               said = e ∙ ap answered (a.1 ∙ i);
               bytes =
@@ -146,22 +148,22 @@ serve_gives s out store p b h = go (serve_of s out store).said refl
 
 -- of several turns one gives it, or all keep it
 turns_give : (n : ℕ) (s : Session) (store : List ℕ) (p : ℕ) (b : List ℕ) → Holds s store p b
-    → Holds (turned_all s (turns n s)) store p b ⊎ ((i : ℕ) × (answer_at (turns n s) i ≡ packet p))
+    → Holds (turned_all s (turns n s)) store p b ⊎ ((i : ℕ) × (answer_at (turns n s) i ≡ Packet p))
 unfolding Turn-rules.turns Turn-rules.turned_all
 turns_give zero s store p b h = inl h
 turns_give (suc n) s store p b h = go (turns_split single n s) (turn_gives s store p b h) (λ k. turns_give n (turned s (turn s)) store p b k)
   where
     Result : List Turn → Type 0
-    Result ts = Holds (turned_all s ts) store p b ⊎ ((i : ℕ) × (answer_at ts i ≡ packet p))
+    Result ts = Holds (turned_all s ts) store p b ⊎ ((i : ℕ) × (answer_at ts i ≡ Packet p))
 
     next : List Turn → Type 0
-    next ts = Holds (turned_all (turned s (turn s)) ts) store p b ⊎ ((i : ℕ) × (answer_at ts i ≡ packet p))
+    next ts = Holds (turned_all (turned s (turn s)) ts) store p b ⊎ ((i : ℕ) × (answer_at ts i ≡ Packet p))
 
     later : (ts : List Turn) → next ts → Result (turn s ∷ ts)
     later ts (inl k) = inl k
     later ts (inr k) = inr (suc k.0, k.1)
 
-    go : Split single n s → Holds (turned s (turn s)) store p b ⊎ (turn s ≡ packet p)
+    go : Split single n s → Holds (turned s (turn s)) store p b ⊎ (turn s ≡ Packet p)
         → (Holds (turned s (turn s)) store p b → next (turns n (turned s (turn s)))) → Result (turns (suc n) s)
     go (inl w) k r = subst Result (sym w.1) (inl h)
     go (inr e) (inl k) r = subst Result (sym e) (later (turns n (turned s (turn s))) (r k))
@@ -181,8 +183,8 @@ drain_gives s out store budget p b h = go (drain_of s out store budget).said ref
         ⊎_elim
         (λ (i : Holds (turned_all s (turns budget s)) store p b).
         inl (subst (λ (u : Session). Holds u store p b) (sym (d.session ∙ ap (turned_all s) d.all)) i))
-        (λ (i : (j : ℕ) × (answer_at (turns budget s) j ≡ packet p)).
-        let q : answer_at ts i.0 ≡ packet p = ap (λ (us : List Turn). answer_at us i.0) d.all ∙ i.1 in
+        (λ (i : (j : ℕ) × (answer_at (turns budget s) j ≡ Packet p)).
+        let q : answer_at ts i.0 ≡ Packet p = ap (λ (us : List Turn). answer_at us i.0) d.all ∙ i.1 in
         inr (record {
           turns = ts;
           said = e;

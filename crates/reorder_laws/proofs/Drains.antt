@@ -14,7 +14,9 @@ use Rattle.reorder_session.specs.declared.Session.{Session}
 use Rattle.reorder_session.specs.Session.{slot, single}
 use Rattle.reorder_rules.specs.Outcome.{outcome}
 use Rattle.reorder_rules.proofs.Said.{left}
-use Rattle.reorder_rules.specs.Turn.{Turn, packet, waiting, bytes_at}
+use Rattle.reorder_rules.specs.declared.Turn.{Turn}
+use Rattle.reorder_rules.specs.declared.Turn.TheVariants.{Packet, Waiting}
+use Rattle.reorder_rules.specs.Turn.{bytes_at}
 use Rattle.reorder_session.specs.Calls.{turn, turned, shown, turns, turned_all, shown_all, serve_refusal, drain_refusal, serve_of, drain_of}
 use Rattle.reorder_rules.proofs.Turns.{turns_stop, Split, turns_split, turns_most}
 use Rattle.reorder_rules.proofs.Ready.{DrainReady, drain_ready}
@@ -25,7 +27,7 @@ use Rattle.reorder_laws.proofs.Pieces.{piece_same, slot_length, shown_packet, sh
 
 -- what is said by b serves that answer ts
 abbrev padded : ℕ → List Turn → List (Said Turn)
-padded b ts = map answered (ts ++ replicate (b - length ts) waiting)
+padded b ts = map answered (ts ++ replicate (b - length ts) Waiting)
 
 module _ (store : List ℕ) (size : length store ≡ 34560) (one : List ℕ) (room : 1080 ≤ length one) where
   -- one serve
@@ -61,16 +63,16 @@ module _ (store : List ℕ) (size : length store ≡ 34560) (one : List ℕ) (ro
       go (inl w) r =
           let same : (serve_of s one store).session ≡ s = f.session ∙ ap (turned s) w.0 in
           (λ i. (f.says ∙ ap answered w.0) i ∷ map said_by (serves b (same i) one store))
-          ∙ ap (λ (l : List (Said Turn)). answered waiting ∷ l)
-          (r s v ∙ ap (padded b) (turns_stop single b s w.0) ∙ ap (λ (k : ℕ). map answered (replicate k waiting)) (sub-zero b))
-          ∙ ap (λ (k : ℕ). map answered (replicate k waiting)) (sym (sub-zero (suc b)))
+          ∙ ap (λ (l : List (Said Turn)). answered Waiting ∷ l)
+          (r s v ∙ ap (padded b) (turns_stop single b s w.0) ∙ ap (λ (k : ℕ). map answered (replicate k Waiting)) (sub-zero b))
+          ∙ ap (λ (k : ℕ). map answered (replicate k Waiting)) (sym (sub-zero (suc b)))
           ∙ sym (ap (padded (suc b)) w.1)
       go (inr e) r =
           let t = turned s (turn s) in
           let k : b - length (turns b t) ≡ suc b - suc (length (turns b t)) = omega arith in
           (λ i. f.says i ∷ map said_by (serves b (f.session i) one store))
           ∙ ap (λ (l : List (Said Turn)). answered (turn s) ∷ l) (r t (whole_turned s v))
-          ∙ ap (λ (n : ℕ). answered (turn s) ∷ map answered (turns b t ++ replicate n waiting)) k
+          ∙ ap (λ (n : ℕ). answered (turn s) ∷ map answered (turns b t ++ replicate n Waiting)) k
           ∙ sym (ap (padded (suc b)) e)
 
   session_all : (b : ℕ) (s : Session) → Whole s → session_after s (serves b s one store) ≡ turned_all s (turns b s)
@@ -91,7 +93,7 @@ module _ (store : List ℕ) (size : length store ≡ 34560) (one : List ℕ) (ro
           ap (λ (t : Session). session_after t (serves b t one store)) f.session
           ∙ r (turned s (turn s)) (whole_turned s v) ∙ sym (ap (turned_all s) e)
 
-  bytes_all : (b : ℕ) (s : Session) → Whole s → (i p : ℕ) → answer_at (turns b s) i ≡ packet p
+  bytes_all : (b : ℕ) (s : Session) → Whole s → (i p : ℕ) → answer_at (turns b s) i ≡ Packet p
       → bytes_at (get_or (map bytes_by (serves b s one store)) i []) 0 ≡ slot store p
   unfolding serves Turn-rules.turns
   bytes_all zero s v i p e = let z : ◌≡◌ {A = ℕ} 0 1 = cc in absurd (omega arith)
@@ -103,17 +105,17 @@ module _ (store : List ℕ) (size : length store ≡ 34560) (one : List ℕ) (ro
       at : ℕ → Type 0
       at j = bytes_at (get_or (map bytes_by (serves (suc b) s one store)) j []) 0 ≡ slot store p
 
-      go : Split single b s → (j : ℕ) → answer_at (turns (suc b) s) j ≡ packet p
-          → ((t : Session) → Whole t → (j p : ℕ) → answer_at (turns b t) j ≡ packet p → bytes_at (get_or (map bytes_by (serves b t one store)) j []) 0 ≡ slot store p) → at j
+      go : Split single b s → (j : ℕ) → answer_at (turns (suc b) s) j ≡ Packet p
+          → ((t : Session) → Whole t → (j p : ℕ) → answer_at (turns b t) j ≡ Packet p → bytes_at (get_or (map bytes_by (serves b t one store)) j []) 0 ≡ slot store p) → at j
       go (inl w) j h r =
-          let q : waiting ≡ packet p = sym (ap (λ (ts : List Turn). answer_at ts j) w.1) ∙ h in
+          let q : Waiting ≡ Packet p = sym (ap (λ (ts : List Turn). answer_at ts j) w.1) ∙ h in
           let z : ◌≡◌ {A = ℕ} 0 1 = cc in
           absurd (omega arith)
       go (inr u) zero h r =
-          let q : turn s ≡ packet p = sym (ap (λ (ts : List Turn). answer_at ts 0) u) ∙ h in
+          let q : turn s ≡ Packet p = sym (ap (λ (ts : List Turn). answer_at ts 0) u) ∙ h in
           ap (λ (l : List ℕ). bytes_at l 0) (f.bytes ∙ ap (shown s 0 store one) q) ∙ piece_same one (slot store p) 0 (slot_length store p size) (omega arith)
       go (inr u) (suc j) h r =
-          let q : answer_at (turns b (turned s (turn s))) j ≡ packet p = sym (ap (λ (ts : List Turn). answer_at ts (suc j)) u) ∙ h in
+          let q : answer_at (turns b (turned s (turn s))) j ≡ Packet p = sym (ap (λ (ts : List Turn). answer_at ts (suc j)) u) ∙ h in
           ap (λ (t : Session). bytes_at (get_or (map bytes_by (serves b t one store)) j []) 0) f.session ∙ r (turned s (turn s)) (whole_turned s v) j p q
 
 -- ---- the drain
@@ -137,7 +139,7 @@ drained s out store budget ts e =
     record { ready = r; all = a.1; few = omega (arith, r.most); session = l.session; bytes = l.bytes }
 
 -- the bytes of a drain's answer numbered i
-pub drained_packet : (s : Session) (out store : List ℕ) (budget : ℕ) (ts : List Turn) → Drained s out store budget ts → (i p : ℕ) → answer_at ts i ≡ packet p
+pub drained_packet : (s : Session) (out store : List ℕ) (budget : ℕ) (ts : List Turn) → Drained s out store budget ts → (i p : ℕ) → answer_at ts i ≡ Packet p
     → bytes_at (drain_of s out store budget).bytes i ≡ slot store p
 drained_packet s out store budget ts d i p e =
     let q : i ≡ 0 + i = omega arith in
@@ -145,7 +147,7 @@ drained_packet s out store budget ts d i p e =
     ∙ shown_packet store d.ready.store s ts 0 i p out (omega (arith, d.ready.out, d.few)) e
 
 drained_other : (s : Session) (out store : List ℕ) (budget : ℕ) (ts : List Turn) → Drained s out store budget ts → (i : ℕ)
-    → ((p : ℕ) → answer_at ts i ≡ packet p → ⊥) → bytes_at (drain_of s out store budget).bytes i ≡ bytes_at out i
+    → ((p : ℕ) → answer_at ts i ≡ Packet p → ⊥) → bytes_at (drain_of s out store budget).bytes i ≡ bytes_at out i
 drained_other s out store budget ts d i n =
     let q : i ≡ 0 + i = omega arith in
     ap (λ (l : List ℕ). bytes_at l i) d.bytes ∙ ap (bytes_at (shown_all s 0 store out ts)) q

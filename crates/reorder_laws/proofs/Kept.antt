@@ -25,7 +25,8 @@ use Rattle.reorder_session.specs.Calls.{offer_due, offer_of, turn, turned, turns
 use Rattle.reorder_offer.specs.Opening.{opened, open_due, open_of}
 use Rattle.reorder_rules.proofs.Said.{outcome_cases, left}
 use Rattle.reorder_rules.proofs.Taken.{taken_offer}
-use Rattle.reorder_rules.specs.Turn.{Turn, packet, missing, waiting}
+use Rattle.reorder_rules.specs.declared.Turn.{Turn}
+use Rattle.reorder_rules.specs.declared.Turn.TheVariants.{Packet, Missing, Waiting}
 use Rattle.reorder_turn.proofs.Turns.{Shows, shows_packet, shows_missing, shows_waiting, shows}
 use Rattle.reorder_rules.proofs.Turns.{Split, turns_split}
 use Rattle.reorder_rules.proofs.Ready.{pass_ready}
@@ -70,9 +71,9 @@ module _ (s : Session) (v : Whole s) where
   whole_turned = go (turn s) (shows s)
     where
       go : (t : Turn) → Shows s t → Whole (turned s t)
-      go (packet p) (shows_packet e) = whole_freed e
-      go (missing p) (shows_missing e q h l) = whole_skipped e (omega (arith, v.held_most q h, l, v.threshold_least))
-      go waiting (shows_waiting e n) = v
+      go (Packet p) (shows_packet e) = whole_freed e
+      go (Missing p) (shows_missing e q h l) = whole_skipped e (omega (arith, v.held_most q h, l, v.threshold_least))
+      go Waiting (shows_waiting e n) = v
 
 -- ---- one step
 
@@ -98,9 +99,9 @@ pub keeps_turned : (s : Session) → Keeps s (turned s (turn s))
 keeps_turned s = go (turn s) (λ v. whole_turned s v)
   where
     go : (t : Turn) → (Whole s → Whole (turned s t)) → Keeps s (turned s t)
-    go (packet p) f = keeps_moved s (freed s.window) (omega arith) f
-    go (missing p) f = keeps_moved s (skipped s.window) (omega arith) f
-    go waiting f = keeps_none s
+    go (Packet p) f = keeps_moved s (freed s.window) (omega arith) f
+    go (Missing p) f = keeps_moved s (skipped s.window) (omega arith) f
+    go Waiting f = keeps_none s
 
 -- ---- several turns
 

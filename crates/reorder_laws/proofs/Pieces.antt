@@ -11,7 +11,9 @@ use Rattle.octets.proofs.Codec.{part_length}
 use Rattle.octets.proofs.Store.{put_there, put_before, put_after}
 use Rattle.reorder_session.specs.declared.Session.{Session}
 use Rattle.reorder_session.specs.Session.{slot, single}
-use Rattle.reorder_rules.specs.Turn.{Turn, packet, missing, waiting, bytes_at}
+use Rattle.reorder_rules.specs.declared.Turn.{Turn}
+use Rattle.reorder_rules.specs.declared.Turn.TheVariants.{Packet, Missing, Waiting}
+use Rattle.reorder_rules.specs.Turn.{bytes_at}
 use Rattle.reorder_session.specs.Calls.{turned, shown, shown_all}
 use Rattle.reorder_rules.proofs.Turns.{shown_length}
 use Rattle.reorder_laws.specs.Serves.{answer_at}
@@ -35,9 +37,9 @@ slot_length store p e = part_length store (1080 * (p % 32)) 1080 (omega arith)
 module _ (store : List ℕ) (size : length store ≡ 34560) where
   -- one turn leaves the other pieces
   shown_elsewhere : (s : Session) (k j : ℕ) (out : List ℕ) (t : Turn) → 1080 * k + 1080 ≤ length out → (k ≡ j → ⊥) → bytes_at (shown s k store out t) j ≡ bytes_at out j
-  shown_elsewhere s k j out (packet p) h n = piece_other out (slot store p) k j (slot_length store p size) h n
-  shown_elsewhere s k j out (missing p) h n = refl
-  shown_elsewhere s k j out waiting h n = refl
+  shown_elsewhere s k j out (Packet p) h n = piece_other out (slot store p) k j (slot_length store p size) h n
+  shown_elsewhere s k j out (Missing p) h n = refl
+  shown_elsewhere s k j out Waiting h n = refl
 
   -- turns numbered from k on leave the pieces before
   shown_later : (s : Session) (ts : List Turn) (k j : ℕ) (out : List ℕ) → 1080 * (k + length ts) ≤ length out → j < k → bytes_at (shown_all s k store out ts) j ≡ bytes_at out j
@@ -48,7 +50,7 @@ module _ (store : List ℕ) (size : length store ≡ 34560) where
       ∙ shown_elsewhere s k j out t (omega arith) (λ e. omega arith)
 
   -- the answer numbered i of turns numbered from k on: a packet's bytes stand at its piece, else that piece is as it was
-  pub shown_packet : (s : Session) (ts : List Turn) (k i p : ℕ) (out : List ℕ) → 1080 * (k + length ts) ≤ length out → answer_at ts i ≡ packet p
+  pub shown_packet : (s : Session) (ts : List Turn) (k i p : ℕ) (out : List ℕ) → 1080 * (k + length ts) ≤ length out → answer_at ts i ≡ Packet p
       → bytes_at (shown_all s k store out ts) (k + i) ≡ slot store p
   unfolding Turn-rules.shown_all
   shown_packet s [] k i p out h e = let z : ◌≡◌ {A = ℕ} 0 1 = cc in absurd (omega arith)
@@ -63,7 +65,7 @@ module _ (store : List ℕ) (size : length store ≡ 34560) where
       ap (bytes_at (shown_all (turned s t) (suc k) store (shown s k store out t) ts)) q
       ∙ shown_packet (turned s t) ts (suc k) i p (shown s k store out t) (omega (arith, shown_length single s k store out t)) e
 
-  pub shown_other : (s : Session) (ts : List Turn) (k i : ℕ) (out : List ℕ) → 1080 * (k + length ts) ≤ length out → ((p : ℕ) → answer_at ts i ≡ packet p → ⊥)
+  pub shown_other : (s : Session) (ts : List Turn) (k i : ℕ) (out : List ℕ) → 1080 * (k + length ts) ≤ length out → ((p : ℕ) → answer_at ts i ≡ Packet p → ⊥)
       → bytes_at (shown_all s k store out ts) (k + i) ≡ bytes_at out (k + i)
   unfolding Turn-rules.shown_all
   shown_other s [] k i out h n = refl
@@ -74,10 +76,10 @@ module _ (store : List ℕ) (size : length store ≡ 34560) where
       ∙ idle t n
       ∙ ap (bytes_at out) (sym q)
     where
-      idle : (u : Turn) → ((p : ℕ) → u ≡ packet p → ⊥) → bytes_at (shown s k store out u) k ≡ bytes_at out k
-      idle (packet p) m = absurd (m p refl)
-      idle (missing p) m = refl
-      idle waiting m = refl
+      idle : (u : Turn) → ((p : ℕ) → u ≡ Packet p → ⊥) → bytes_at (shown s k store out u) k ≡ bytes_at out k
+      idle (Packet p) m = absurd (m p refl)
+      idle (Missing p) m = refl
+      idle Waiting m = refl
   shown_other s (t ∷ ts) k (suc i) out h n =
       let q : k + suc i ≡ suc k + i = omega arith in
       ap (bytes_at (shown_all (turned s t) (suc k) store (shown s k store out t) ts)) q

@@ -6,7 +6,9 @@ use Rattle.reorder_session.specs.declared.Session.{Session}
 use Rattle.reorder_session.specs.Session.{slot}
 use Rattle.reorder_offer.specs.Opening.{open_of}
 use Rattle.reorder_session.specs.Calls.{offer_of, serve_of, drain_of, pass_of}
-use Rattle.reorder_rules.specs.Turn.{Turn, packet, bytes_at}
+use Rattle.reorder_rules.specs.declared.Turn.{Turn}
+use Rattle.reorder_rules.specs.declared.Turn.TheVariants.{Packet}
+use Rattle.reorder_rules.specs.Turn.{bytes_at}
 use Rattle.reorder_laws.specs.Serves.{answer_at}
 
 -- position p is held, with the bytes b in the store
@@ -16,7 +18,7 @@ pub record Holds (s : Session) (store : List ℕ) (p : ℕ) (b : List ℕ) : Typ
 
 -- a serve gives p, with the bytes b in its output
 pub record GivenBy (s : Session) (out store : List ℕ) (p : ℕ) (b : List ℕ) : Type 0 where
-  pub said : (serve_of s out store).said ≡ answered (packet p)
+  pub said : (serve_of s out store).said ≡ answered (Packet p)
   pub bytes : bytes_at (serve_of s out store).bytes 0 ≡ b
 
 -- an answer of a drain gives p, with the bytes b where that answer's bytes stand
@@ -24,7 +26,7 @@ pub record DrainedBy (s : Session) (out store : List ℕ) (budget p : ℕ) (b : 
   pub turns : List Turn
   pub said : (drain_of s out store budget).said ≡ answered turns
   pub number : ℕ
-  pub answer : answer_at turns number ≡ packet p
+  pub answer : answer_at turns number ≡ Packet p
   pub bytes : bytes_at (drain_of s out store budget).bytes number ≡ b
 
 pub record BytesComeOut : Type 0 where

@@ -4,7 +4,9 @@ use Rattle.octets.specs.Refusal.{Said, answered}
 use Rattle.packet_layout.specs.Layout.{packet_size}
 use Rattle.reorder_session.specs.declared.Session.{Session}
 use Rattle.reorder_rules.specs.Outcome.{Outcome}
-use Rattle.reorder_rules.specs.Turn.{Turn, packet, waiting, bytes_at}
+use Rattle.reorder_rules.specs.declared.Turn.{Turn}
+use Rattle.reorder_rules.specs.declared.Turn.TheVariants.{Packet, Waiting}
+use Rattle.reorder_rules.specs.Turn.{bytes_at}
 use Rattle.reorder_session.specs.Calls.{serve_of, drain_of}
 
 -- n serves one after another: each gets the session that the one before left, the same store, and an output like `one`
@@ -25,18 +27,18 @@ bytes_by o = o.bytes
 
 -- the answer numbered i, from 0; Waiting past the last
 abbrev pub answer_at : List Turn → ℕ → Turn
-answer_at ts i = get_or ts i waiting
+answer_at ts i = get_or ts i Waiting
 
 -- a drain of s with this budget, which isn't refused and answers ts, against as many serves with outputs of at least 1,080 bytes
 pub record IsServes (s : Session) (out store : List ℕ) (budget : ℕ) (ts : List Turn) (one : List ℕ) : Type 0 where
   -- each serve says what the drain answers, and Waiting past its count
-  pub answers : map said_by (serves budget s one store) ≡ map answered (ts ++ replicate (budget - length ts) waiting)
+  pub answers : map said_by (serves budget s one store) ≡ map answered (ts ++ replicate (budget - length ts) Waiting)
   pub session : (drain_of s out store budget).session ≡ session_after s (serves budget s one store)
   -- where the answer numbered i is a packet, the drain's bytes at 1,080 i are the first 1,080 of that serve's output
-  pub given : (i p : ℕ) → answer_at ts i ≡ packet p
+  pub given : (i p : ℕ) → answer_at ts i ≡ Packet p
       → bytes_at (drain_of s out store budget).bytes i ≡ bytes_at (get_or (map bytes_by (serves budget s one store)) i []) 0
   -- and where it isn't, the bytes there stay
-  pub others : (i : ℕ) → ((p : ℕ) → answer_at ts i ≡ packet p → ⊥) → bytes_at (drain_of s out store budget).bytes i ≡ bytes_at out i
+  pub others : (i : ℕ) → ((p : ℕ) → answer_at ts i ≡ Packet p → ⊥) → bytes_at (drain_of s out store budget).bytes i ≡ bytes_at out i
 
 abbrev pub DrainsAreServes : Type 0
 DrainsAreServes =

@@ -8,7 +8,9 @@ use native.Mathlib.Omega.{arith}
 use lib.ListN.{length}
 use Rattle.octets.proofs.Store.{put_length}
 use Rattle.reorder_rules.specs.Buffer.{Buffer}
-use Rattle.reorder_rules.specs.Turn.{Turn, Packet, Missing, Waiting, turn, turned, shown, turns, turned_all, shown_all}
+use Rattle.reorder_rules.specs.declared.Turn.{Turn}
+use Rattle.reorder_rules.specs.declared.Turn.TheVariants.{Packet, Missing, Waiting}
+use Rattle.reorder_rules.specs.Turn.{turn, turned, shown, turns, turned_all, shown_all}
 
 -- ---- one turn, by what is held
 

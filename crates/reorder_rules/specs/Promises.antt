@@ -5,7 +5,7 @@ use Rattle.octets.specs.Refusal.{Said, refused, answered}
 use Rattle.reorder_rules.specs.Outcome.{ComesTo}
 use Rattle.reorder_rules.specs.Buffer.{Buffer}
 use Rattle.reorder_rules.specs.Offer.{offer_of}
-use Rattle.reorder_rules.specs.Turn.{Turn}
+use Rattle.reorder_rules.specs.declared.Turn.{Turn}
 use Rattle.reorder_rules.specs.Serve.{serve_of, drain_of}
 use Rattle.reorder_rules.specs.Pass.{pass_of}
 

@@ -5,7 +5,8 @@ use Rattle.packet_layout.specs.Layout.{packet_size}
 use Rattle.reorder_rules.specs.Sizes.{positions, store_size}
 use Rattle.reorder_rules.specs.Outcome.{Outcome, outcome}
 use Rattle.reorder_rules.specs.Buffer.{Buffer}
-use Rattle.reorder_rules.specs.Turn.{Turn, turn, turned, shown, turns, turned_all, shown_all}
+use Rattle.reorder_rules.specs.declared.Turn.{Turn}
+use Rattle.reorder_rules.specs.Turn.{turn, turned, shown, turns, turned_all, shown_all}
 
 module _ {S : Type 0} (B : Buffer S) where
   -- 30, 27, 29: session broken; store not 34,560 bytes; output under 1,080

@@ -3,8 +3,8 @@ use Rattle.std.specs.Prelude.{ℕ, zero, suc, ◌+◌, ◌*◌, Bool, true, fals
 use Rattle.octets.specs.Bytes.{part, put}
 use Rattle.packet_layout.specs.Layout.{packet_size}
 use Rattle.reorder_rules.specs.Buffer.{Buffer}
-pub use Rattle.reorder_rules.specs.declared.Turn.{Turn}
-pub use Rattle.reorder_rules.specs.declared.Turn.TheVariants.{Packet, Missing, Waiting}
+use Rattle.reorder_rules.specs.declared.Turn.{Turn}
+use Rattle.reorder_rules.specs.declared.Turn.TheVariants.{Packet, Missing, Waiting}
 
 -- By what is held, and a consumer's next and threshold H: if next is held, its packet; otherwise, if some held position is at least next + H,
 -- Missing next; otherwise Waiting.

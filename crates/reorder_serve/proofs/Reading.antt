@@ -3,16 +3,17 @@ use mathlib.Core.Path.{◌≡◌, refl, sym, ap, ◌∙◌, subst}
 use mathlib.Core.List.{List, [], ◌∷◌, ◌++◌, map}
 use lib.ListN.{length, take}
 use Rattle.octets.specs.Refusal.{Said, refused, answered}
-use Rattle.reorder_rules.specs.Turn.{Turn, packet, missing, waiting}
+use Rattle.reorder_rules.specs.declared.Turn.{Turn}
+use Rattle.reorder_rules.specs.declared.Turn.TheVariants.{Packet, Missing, Waiting}
 use Rattle.reorder_turn.specs.declared.Description.{Description}
 use Rattle.reorder_turn.specs.Described.{described, described_all}
 use Rattle.reorder_serve.specs.declared.Report.{Report}
 use Rattle.reorder_serve.specs.Report.{described_by, first_of, report_said, counted, descriptions, Reports}
 
 read_back : (t : Turn) → described_by (described t) ≡ t
-read_back (packet p) = refl
-read_back (missing p) = refl
-read_back waiting = refl
+read_back (Packet p) = refl
+read_back (Missing p) = refl
+read_back Waiting = refl
 
 read_first : (ts : List Turn) (ds : List Description) → map described_by (take (length ts) (map described ts ++ ds)) ≡ ts
 read_first [] ds = refl

@@ -7,7 +7,7 @@ use native.Mathlib.Omega.{arith}
 use lib.ListN.{length, replicate, set, length-append, length-set}
 use Rattle.octets.specs.Refusal.{answered}
 use Rattle.reorder_rules.specs.Turn as Turn-rules
-use Rattle.reorder_rules.specs.Turn.{Turn}
+use Rattle.reorder_rules.specs.declared.Turn.{Turn}
 use Rattle.reorder_rules.proofs.Turns.{one_more, shown_length, turns_more, turned_last, shown_last}
 use Rattle.reorder_session.specs.declared.Session.{Session}
 use Rattle.reorder_session.specs.Session.{single}

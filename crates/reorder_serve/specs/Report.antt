@@ -2,7 +2,8 @@
 use Rattle.std.specs.Prelude.{ℕ, ◌≡◌, cond, List, map, eqb, length, replicate, take}
 use Rattle.octets.specs.Refusal.{Said, refused, answered}
 use Rattle.reorder_rules.specs.Sizes.{positions}
-use Rattle.reorder_rules.specs.Turn.{Turn, packet, missing, waiting}
+use Rattle.reorder_rules.specs.declared.Turn.{Turn}
+use Rattle.reorder_rules.specs.declared.Turn.TheVariants.{Packet, Missing, Waiting}
 use Rattle.reorder_session.specs.declared.Session.{Session}
 use Rattle.reorder_session.specs.Calls.{Drains}
 use Rattle.reorder_turn.specs.declared.Description.{Description}
@@ -18,7 +19,7 @@ drain_said (Count n) = answered n
 
 -- the answer that a description tells: kind 1 a packet, 2 a missing position
 abbrev pub described_by : Description → Turn
-described_by d = cond (eqb d.kind 1) (packet d.position) (cond (eqb d.kind 2) (missing d.position) waiting)
+described_by d = cond (eqb d.kind 1) (Packet d.position) (cond (eqb d.kind 2) (Missing d.position) Waiting)
 
 -- what a report stands for: its number, or the answers of as many descriptions as it counts
 abbrev pub first_of : List Description → Said ℕ → Said (List Turn)

@@ -4,7 +4,8 @@ use Rattle.octets.specs.Refusal.{Said}
 use Rattle.packet.specs.declared.PacketFields.{PacketFields}
 use Rattle.reorder_rules.specs.Outcome.{Outcome}
 use Rattle.reorder_rules.specs.Offer as Offer
-use Rattle.reorder_rules.specs.Turn as Turn
+use Rattle.reorder_rules.specs.Turn as Turn-rules
+use Rattle.reorder_rules.specs.declared.Turn.{Turn}
 use Rattle.reorder_rules.specs.Serve as Serve
 use Rattle.reorder_rules.specs.Pass as Pass
 use Rattle.reorder_rules.specs.Promises as Promises
@@ -30,42 +31,42 @@ Offers = Promises.Offers single
 
 -- ---- a serve
 
-abbrev pub turn : Session → Turn.Turn
-turn = Turn.turn single
+abbrev pub turn : Session → Turn
+turn = Turn-rules.turn single
 
-abbrev pub turned : Session → Turn.Turn → Session
-turned = Turn.turned single
+abbrev pub turned : Session → Turn → Session
+turned = Turn-rules.turned single
 
-abbrev pub shown : Session → ℕ → List ℕ → List ℕ → Turn.Turn → List ℕ
-shown = Turn.shown single
+abbrev pub shown : Session → ℕ → List ℕ → List ℕ → Turn → List ℕ
+shown = Turn-rules.shown single
 
 abbrev pub serve_refusal : Session → ℕ → ℕ → ℕ
 serve_refusal = Serve.serve_refusal single
 
-abbrev pub serve_of : Session → List ℕ → List ℕ → Outcome Session Turn.Turn
+abbrev pub serve_of : Session → List ℕ → List ℕ → Outcome Session Turn
 serve_of = Serve.serve_of single
 
-abbrev pub Serves : Session → List ℕ → List ℕ → Said Turn.Turn → Session → List ℕ → Type 0
+abbrev pub Serves : Session → List ℕ → List ℕ → Said Turn → Session → List ℕ → Type 0
 Serves = Promises.Serves single
 
 -- ---- a drain
 
-abbrev pub turns : ℕ → Session → List Turn.Turn
-turns = Turn.turns single
+abbrev pub turns : ℕ → Session → List Turn
+turns = Turn-rules.turns single
 
-abbrev pub turned_all : Session → List Turn.Turn → Session
-turned_all = Turn.turned_all single
+abbrev pub turned_all : Session → List Turn → Session
+turned_all = Turn-rules.turned_all single
 
-abbrev pub shown_all : Session → ℕ → List ℕ → List ℕ → List Turn.Turn → List ℕ
-shown_all = Turn.shown_all single
+abbrev pub shown_all : Session → ℕ → List ℕ → List ℕ → List Turn → List ℕ
+shown_all = Turn-rules.shown_all single
 
 abbrev pub drain_refusal : Session → ℕ → ℕ → ℕ → ℕ
 drain_refusal = Serve.drain_refusal single
 
-abbrev pub drain_of : Session → List ℕ → List ℕ → ℕ → Outcome Session (List Turn.Turn)
+abbrev pub drain_of : Session → List ℕ → List ℕ → ℕ → Outcome Session (List Turn)
 drain_of = Serve.drain_of single
 
-abbrev pub Drains : Session → List ℕ → List ℕ → ℕ → Said (List Turn.Turn) → Session → List ℕ → Type 0
+abbrev pub Drains : Session → List ℕ → List ℕ → ℕ → Said (List Turn) → Session → List ℕ → Type 0
 Drains = Promises.Drains single
 
 -- ---- a pass

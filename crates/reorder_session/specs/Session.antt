@@ -1,13 +1,13 @@
 -- Document 01, "The rack" and "Refusal numbers": the session.
-use Rattle.std.specs.Prelude.{ℕ, ◌*◌, ◌%◌, Bool, not, ◌||◌, List, ltb}
+use Rattle.std.specs.Prelude.{ℕ, ◌*◌, ◌%◌, Bool, not, ◌||◌, List, eqb, ltb}
 use Rattle.octets.specs.Bytes.{part, put}
-use Rattle.octets.specs.Refusal.{refuse◌unless◌else◌}
+use Rattle.octets.specs.Refusal.{refuse◌unless◌else◌, ◌then◌}
 use Rattle.window.specs.declared.Window.{Window}
 use Rattle.window.specs.Window.{held_at, some_held, holding, freed, skipped}
 use Rattle.packet_layout.specs.Layout.{packet_size}
 use Rattle.packet_layout.specs.Header.{most_count}
 use Rattle.packet_layout.specs.SumWord.{is_sum_word}
-use Rattle.reorder_rules.specs.Sizes.{positions, end_position, is_threshold}
+use Rattle.reorder_rules.specs.Sizes.{positions, store_size, end_position, is_threshold}
 use Rattle.reorder_rules.specs.Buffer.{Buffer}
 use Rattle.reorder_session.specs.declared.Session.{Session}
 
@@ -48,3 +48,10 @@ single =
       given = λ s. with_window s (freed s.window);
       missed = λ s. with_window s (skipped s.window);
     }
+
+-- 30, 27: session broken; store, of this size, not 34,560 bytes
+unfoldable pub store_refusal : Session → ℕ → ℕ
+store_refusal s size =
+    single.unfit s then
+    refuse 27 unless eqb size store_size else
+    0

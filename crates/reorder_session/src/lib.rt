@@ -2,9 +2,12 @@
 #![tactic(auto)]
 
 ghost use Rattle.std.specs.Prelude.{◌≡◌};
-ghost use Rattle.reorder_session.specs.Session.{past_end, broken, with_window};
+ghost use Rattle.octets.specs.Refusal.{refusal_in};
+ghost use Rattle.refusal.specs.Number.{said};
+ghost use Rattle.reorder_session.specs.Session.{past_end, broken, store_refusal, with_window};
 
 use position::Anchor;
+use refusal::Refusal;
 use window::Window;
 
 // The packet's numbers, in the width of the session's.
@@ -17,7 +20,7 @@ const LAST_SUM_WORD: u32 = packet_layout::LAST_SUM_WORD as u32;
 // What a reorder buffer of one consumer keeps between calls; the held bytes live in a store that the caller lends. All its numbers have 32 bits, so
 // that no byte of it is padding. The window starts at next.
 #[repr(C)]
-#[derive(Clone, Copy)]
+#[derive(Clone, Copy, Default)]
 pub struct Session {
     pub anchor: Anchor,
     pub sum_word: u32,
@@ -29,38 +32,41 @@ pub struct Session {
 fn is_past_end(window: Window) -> bool
     ensures { result ≡ past_end window }
 {
-    if reorder_rules::END_POSITION < window.start {
-        return true;
-    }
-    window::is_held_ahead(window, reorder_rules::END_POSITION - window.start)
+    reorder_rules::END_POSITION < window.start
+        || window.is_held_ahead(reorder_rules::END_POSITION - window.start)
 }
 
-// Whether the session is broken: refusal 30.
-pub fn is_broken(session: Session) -> bool
-    ensures { result ≡ broken session }
-{
-    let count = session.anchor.count;
-    let threshold = session.threshold;
-    let sum_word = session.sum_word;
-    if (MOST_COUNT < count)
-        | (((threshold < reorder_rules::LEAST_THRESHOLD)
-            | (reorder_rules::MOST_THRESHOLD < threshold))
-            | ((sum_word < FIRST_SUM_WORD) | (LAST_SUM_WORD < sum_word)))
+impl Session {
+    // Whether the session is broken: refusal 30.
+    pub fn is_broken(self) -> bool
+        ensures { result ≡ broken self }
     {
-        return true;
+        // Joined by `&`, so that the five tests take one branch together.
+        let in_range = (self.anchor.count <= MOST_COUNT)
+            & (reorder_rules::LEAST_THRESHOLD <= self.threshold)
+            & (self.threshold <= reorder_rules::MOST_THRESHOLD)
+            & (FIRST_SUM_WORD <= self.sum_word)
+            & (self.sum_word <= LAST_SUM_WORD);
+        !in_range || is_past_end(self.window)
     }
-    is_past_end(session.window)
-}
 
-// The session with another window.
-pub fn with_window(session: Session, window: Window) -> Session
-    ensures { result ≡ with_window session window }
-{
-    let anchor = session.anchor;
-    Session {
-        anchor,
-        sum_word: session.sum_word,
-        threshold: session.threshold,
-        window,
+    // Refusals 30 and 27, which come first of an offer, a serve and a drain: the session is broken, and the store, of this size, not 34,560 bytes.
+    pub fn check_store(self, store_size: usize) -> Result<(), Refusal>
+        ensures { refusal_in (said result) ≡ store_refusal self store_size }
+    {
+        if self.is_broken() {
+            return Err(Refusal::SessionBroken);
+        }
+        if store_size != reorder_rules::STORE_SIZE {
+            return Err(Refusal::StoreSize);
+        }
+        Ok(())
+    }
+
+    // The session with another window.
+    pub fn with_window(self, window: Window) -> Session
+        ensures { result ≡ with_window self window }
+    {
+        Session { window, ..self }
     }
 }

@@ -8,7 +8,8 @@ use lib.ListN.{length, replicate, set, length-append}
 use Rattle.window.specs.Window.{held_at, some_held}
 use Rattle.window.proofs.Held.{some_held_lem, held_none}
 use Rattle.reorder_rules.specs.Turn as Turn-rules
-use Rattle.reorder_rules.specs.Turn.{Turn, packet, missing, waiting}
+use Rattle.reorder_rules.specs.declared.Turn.{Turn}
+use Rattle.reorder_rules.specs.declared.Turn.TheVariants.{Packet, Missing, Waiting}
 use Rattle.reorder_rules.proofs.Turns.{Moves}
 use Rattle.reorder_session.specs.declared.Session.{Session}
 use Rattle.reorder_session.specs.Calls.{turn}
@@ -17,18 +18,18 @@ use Rattle.reorder_turn.specs.Described.{no_description, described, described_al
 
 -- what a turn tells of what is held
 pub data Shows (s : Session) : Turn → Type 0 where
-  shows_packet : held_at s.window s.window.start ≡ true → Shows s (packet s.window.start)
+  shows_packet : held_at s.window s.window.start ≡ true → Shows s (Packet s.window.start)
   shows_missing : held_at s.window s.window.start ≡ false → (q : ℕ) → held_at s.window q ≡ true → s.window.start + s.threshold ≤ q
-      → Shows s (missing s.window.start)
+      → Shows s (Missing s.window.start)
   shows_waiting : held_at s.window s.window.start ≡ false → ((q : ℕ) → held_at s.window q ≡ true → s.window.start + s.threshold ≤ q → ⊥)
-      → Shows s waiting
+      → Shows s Waiting
 
 pub shows : (s : Session) → Shows s (turn s)
 unfolding Turn-rules.turn
 shows s = go (held_at s.window s.window.start) (some_held s.window (s.window.start + s.threshold)) refl refl
   where
     go : (a b : Bool) → held_at s.window s.window.start ≡ a → some_held s.window (s.window.start + s.threshold) ≡ b
-        → Shows s (cond a (packet s.window.start) (cond b (missing s.window.start) waiting))
+        → Shows s (cond a (Packet s.window.start) (cond b (Missing s.window.start) Waiting))
     go true b e f = shows_packet e
     go false true e f = let r = some_held_lem s.window _ f in shows_missing e r.0 r.1 r.2
     go false false e f = shows_waiting e (λ q h l. held_none s.window _ f q h l)
@@ -36,15 +37,15 @@ shows s = go (held_at s.window s.window.start) (some_held s.window (s.window.sta
 -- ---- descriptions
 
 -- only Waiting is described by kind 0
-pub no_kind : (t : Turn) → (described t).kind ≡ 0 → t ≡ waiting
-no_kind (packet p) e = absurd (omega arith)
-no_kind (missing p) e = absurd (omega arith)
-no_kind waiting e = refl
+pub no_kind : (t : Turn) → (described t).kind ≡ 0 → t ≡ Waiting
+no_kind (Packet p) e = absurd (omega arith)
+no_kind (Missing p) e = absurd (omega arith)
+no_kind Waiting e = refl
 
 pub some_kind : (t : Turn) → ((described t).kind ≡ 0 → ⊥) → Moves t
-some_kind (packet p) n = tt
-some_kind (missing p) n = tt
-some_kind waiting n = absurd (n refl)
+some_kind (Packet p) n = tt
+some_kind (Missing p) n = tt
+some_kind Waiting n = absurd (n refl)
 
 set_last : {A : Type 0} (xs ys : List A) (y v : A) → set (xs ++ (y ∷ ys)) (length xs) v ≡ xs ++ (v ∷ ys)
 set_last [] ys y v = refl

@@ -2,7 +2,8 @@
 use Rattle.std.specs.Prelude.{◌-◌, List, ◌++◌, map, length, replicate}
 use Rattle.octets.specs.Refusal.{Said, refused, answered}
 use Rattle.reorder_rules.specs.Sizes.{positions}
-use Rattle.reorder_rules.specs.Turn.{Turn, packet, missing, waiting}
+use Rattle.reorder_rules.specs.declared.Turn.{Turn}
+use Rattle.reorder_rules.specs.declared.Turn.TheVariants.{Packet, Missing, Waiting}
 use Rattle.reorder_turn.specs.declared.Description.{Description}
 
 -- the description of an answer: kind 1 a packet, 2 a missing position; all zeros for none
@@ -10,9 +11,9 @@ abbrev pub no_description : Description
 no_description = record { kind = 0; position = 0 }
 
 abbrev pub described : Turn → Description
-described (packet p) = record { kind = 1; position = p }
-described (missing p) = record { kind = 2; position = p }
-described waiting = no_description
+described (Packet p) = record { kind = 1; position = p }
+described (Missing p) = record { kind = 2; position = p }
+described Waiting = no_description
 
 -- the i-th answer from 0 is described, and descriptions past the count are all zeros
 unfoldable pub described_all : List Turn → List Description

@@ -5,7 +5,7 @@ use native.Mathlib.Omega.{arith}
 use lib.ListN.{length}
 use Rattle.octets.specs.Refusal.{Said, refused, answered}
 use Rattle.octets.proofs.Ladder.{say_refused, say_answered}
-use Rattle.reorder_rules.specs.Turn.{Turn}
+use Rattle.reorder_rules.specs.declared.Turn.{Turn}
 use Rattle.reorder_rules.specs.Serve.{drain_of}
 use Rattle.reorder_rules.proofs.Said.{stays, leaves}
 use Rattle.reorder_rules.proofs.Turns.{counted_next}

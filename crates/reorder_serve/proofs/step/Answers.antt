@@ -8,7 +8,7 @@ use Rattle.octets.specs.Bytes.{part, put}
 use Rattle.octets.specs.Refusal.{answered}
 use Rattle.window.specs.Window.{freed, skipped}
 use Rattle.window.proofs.Held.{has_32_bits}
-use Rattle.reorder_rules.specs.Turn.{Turn}
+use Rattle.reorder_rules.specs.declared.Turn.{Turn}
 use Rattle.reorder_rules.proofs.Turns.{turn_packet, turn_missing, turn_waiting}
 use Rattle.reorder_session.specs.declared.Session.{Session}
 use Rattle.reorder_session.specs.Session.{with_window, slot_start, single}

@@ -11,9 +11,9 @@ pub returns-then-window-gt-END_POSITION : goal.returns-then-window-gt-END_POSITI
 unfolding past_end
 returns-then-window-gt-END_POSITION c = rw (lt-ltb 1000000 c.args.window.start c.if-window-gt-END_POSITION.true) refl
 
-pub returns : goal.returns
+pub returns-else-window-gt-END_POSITION : goal.returns-else-window-gt-END_POSITION
 unfolding past_end
-returns c =
+returns-else-window-gt-END_POSITION c =
     let w = c.args.window in
     let e : w.start + (1000000 - w.start) ≡ 1000000 = omega arith in
     rw (le-ltb 1000000 w.start c.if-window-gt-END_POSITION.false) (c.is_held_ahead.ensures ∙ ap (some_held w) e)

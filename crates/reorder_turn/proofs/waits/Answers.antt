@@ -15,10 +15,8 @@ by_ahead : (s : Session) → held_at s.window s.window.start ≡ false → (b : 
 by_ahead s free true e = ap is_waiting (sym (turn_missing single s free e))
 by_ahead s free false e = ap is_waiting (sym (turn_waiting single s free e))
 
-pub returns-then-is_start_held : goal.returns-then-is_start_held
-returns-then-is_start_held c = ap is_waiting (sym (turn_packet single c.args.session (sym c.is_start_held.ensures ∙ c.if-is_start_held.true)))
+pub returns-then-not-is_start_held : goal.returns-then-not-is_start_held
+returns-then-not-is_start_held c = by_ahead c.args.session (sym c.if-not-is_start_held.ensures) c.is_held_ahead.result (sym c.is_held_ahead.ensures)
 
-pub returns : goal.returns
-returns c =
-    by_ahead c.args.session
-    (sym c.is_start_held.ensures ∙ c.if-is_start_held.false) c.is_held_ahead.result (sym c.is_held_ahead.ensures)
+pub returns-else-not-is_start_held : goal.returns-else-not-is_start_held
+returns-else-not-is_start_held c = ap not c.if-not-is_start_held.false ∙ ap is_waiting (sym (turn_packet single c.args.session (sym c.if-not-is_start_held.ensures)))
