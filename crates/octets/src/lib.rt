@@ -14,67 +14,50 @@ pub use word::{Word, has_run};
 pub fn u8_at(bytes: &[u8], i: usize) -> u8
     ensures { result ≡ get_or bytes.now i 0 }
 {
-    if i < bytes.len() {
-        return bytes[i];
-    }
-    0
-}
-
-// The byte k places after index i.
-fn u8_after(bytes: &[u8], i: usize, k: usize) -> u8
-    ensures { result ≡ get_or bytes.now (i + k) 0 }
-{
-    if bytes.len() <= i {
-        return 0;
-    }
-    if bytes.len() - i <= k {
-        return 0;
-    }
-    bytes[i + k]
+    bytes.get(i).copied().unwrap_or(0)
 }
 
 // The number in two bytes from index i on.
 pub fn u16_at(bytes: &[u8], i: usize) -> u16
     ensures { result ≡ nat_at bytes.now i 2 }
 {
-    (u8_at(bytes, i) as u16) * 256 + u8_after(bytes, i, 1) as u16
+    let rest = bytes_from(bytes, i);
+    u16::from_be_bytes([u8_at(rest, 0), u8_at(rest, 1)])
 }
 
 // The number in three bytes from index i on.
 pub fn u24_at(bytes: &[u8], i: usize) -> u32
     ensures { result ≡ nat_at bytes.now i 3 }
 {
-    (u16_at(bytes, i) as u32) * 256 + u8_after(bytes, i, 2) as u32
+    let rest = bytes_from(bytes, i);
+    u32::from_be_bytes([0, u8_at(rest, 0), u8_at(rest, 1), u8_at(rest, 2)])
 }
 
 // The number in four bytes from index i on.
 pub fn u32_at(bytes: &[u8], i: usize) -> u32
     ensures { result ≡ nat_at bytes.now i 4 }
 {
-    ((u16_at(bytes, i) as u32) * 256 + u8_after(bytes, i, 2) as u32) * 256
-        + u8_after(bytes, i, 3) as u32
+    let rest = bytes_from(bytes, i);
+    u32::from_be_bytes([
+        u8_at(rest, 0),
+        u8_at(rest, 1),
+        u8_at(rest, 2),
+        u8_at(rest, 3),
+    ])
 }
 
 // The two's complement reading of 16 bits.
-pub fn to_i16(x: u16) -> i16
-    ensures { result ≡ signed 16 x }
+pub fn to_i16(word: u16) -> i16
+    ensures { result ≡ signed 16 word }
 {
-    if x < 32768 {
-        x as i16
-    } else {
-        -1 - (65535 - x) as i16
-    }
+    word.cast_signed()
 }
 
 // The two's complement reading of 32 bits.
 pub fn to_i32(x: u32) -> i32
     ensures { result ≡ signed 32 x }
 {
-    if x < 2147483648 {
-        x as i32
-    } else {
-        -1 - (4294967295 - x) as i32
-    }
+    x.cast_signed()
 }
 
 // The signed number in two bytes from index i on.
@@ -109,12 +92,12 @@ pub fn bytes_from(bytes: &[u8], i: usize) -> &[u8]
 pub fn read_into(bytes: &[u8], i: usize, out: &mut [u8])
     ensures { out.new ≡ octets_at bytes.now i (length out.old) }
 {
-    let rest = bytes_from(bytes, i);
-    if out.len() <= rest.len() {
-        out.copy_from_slice(&rest[..out.len()]);
+    let source = bytes_from(bytes, i);
+    if out.len() <= source.len() {
+        out.copy_from_slice(&source[..out.len()]);
     } else {
-        let (read, past) = out.split_at_mut(rest.len());
-        read.copy_from_slice(rest);
+        let (read, past) = out.split_at_mut(source.len());
+        read.copy_from_slice(source);
         past.fill(0);
     }
 }

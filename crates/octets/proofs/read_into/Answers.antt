@@ -3,17 +3,17 @@ use Rattle.std.proofs.Common.{◌≡◌, ℕ, ◌-◌, List, ◌++◌, length, r
 use Rattle.octets.proofs.Fill.{rest_within, rest_past}
 use Rattle.octets.proofs.read_into.Goals as goal
 
-pub returns-then-out-rest : goal.returns-then-out-rest
-returns-then-out-rest c =
+pub returns-then-out-source : goal.returns-then-out-source
+returns-then-out-source c =
     let a = c.args in
-    c.copy_from_slice.ensures.after ∙ rest_within a.bytes.now _ a.i _ c.bytes_from-rest.ensures c.if-out-rest.true
+    c.copy_from_slice.ensures.after ∙ rest_within a.bytes.now _ a.i _ c.bytes_from-source.ensures c.if-out-source.true
 
-pub returns-else-out-rest : goal.returns-else-out-rest
-returns-else-out-rest c =
+pub returns-else-out-source : goal.returns-else-out-source
+returns-else-out-source c =
     let a = c.args in
     let n = length a.out.now in
-    let rest = c.bytes_from-rest.result.now in
+    let rest = c.bytes_from-source.result.now in
     let past : c.fill.new.self ≡ replicate (n - length rest) 0 =
     c.fill.ensures.after (search rules) ∙ ap (λ (k : ℕ). replicate k 0) (omega (arith, c.split_at_mut-read.ensures.back_len)) in
-    ap₂ (λ (l r : List ℕ). l ++ r) c.copy_from_slice-else-out-rest.ensures.after past
-    ∙ rest_past a.bytes.now rest a.i n c.bytes_from-rest.ensures (omega arith)
+    ap₂ (λ (l r : List ℕ). l ++ r) c.copy_from_slice-else-out-source.ensures.after past
+    ∙ rest_past a.bytes.now rest a.i n c.bytes_from-source.ensures (omega arith)
