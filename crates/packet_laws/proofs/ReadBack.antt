@@ -7,7 +7,8 @@ use lib.ListN.{length, get_or}
 use lib.Seq.{ext_get_or}
 use Rattle.octets.specs.Bytes.{octets_of, put}
 use Rattle.octets.proofs.Codec.{octets_part, part_at, read_one, read_write}
-use Rattle.octets.proofs.Ladder.{say_answered, after_done}
+use Rattle.octets.specs.Refusal.{answered}
+use Rattle.octets.proofs.Ladder.{say_answered, after_done, answer_said}
 use Rattle.octets.proofs.Store.{put_length, put_over, put_there}
 use Rattle.layout.specs.Column.{value, cut}
 use Rattle.checksum.specs.Sum.{packet_sum, word_at, word_sum, zeroed}
@@ -20,7 +21,9 @@ use Rattle.packet_check.proofs.Accept.{Accepted, accepts}
 use Rattle.packet.specs.Fields.{fields_of, arrays_of, no_arrays}
 use Rattle.packet.specs.declared.PacketFields.{PacketFields}
 use Rattle.packet.specs.declared.PacketArrays.{PacketArrays}
-use Rattle.packet_writer.specs.Write.{id_word, sequence_word, parts_of, unsummed, packet_of}
+use Rattle.packet.specs.declared.Packet.{Packet}
+use Rattle.packet.specs.Read.{packet_due}
+use Rattle.packet_writer.specs.Write.{id_word, sequence_word, parts_of, unsummed, packet_of, write_refusal}
 use Rattle.packet_writer.proofs.Accept.{Writable, writable}
 use Rattle.packet_writer.proofs.Histogram.{histogram_at}
 use Rattle.packet_laws.specs.RoundTrip.{Typed, ReadsBack}
@@ -136,3 +139,13 @@ read_back f a x word out t ok =
       sym (after_done _ (arrays_of bs) no_arrays a (sym z) (sym (arrays_are f a y bs t m.count m.error size cuts))),
       ap (λ (ps : List (List ℕ)). get_or ps 20 []) cuts ∙ ap (λ (k : ℕ). put x (word * 2 - 106) (octets_of 2 k)) (sym sum),
     )
+
+-- the packet that was written is read, whole
+pub read_whole : (p : Packet) (x : List ℕ) (word : ℕ) (out : List ℕ) → Typed p.fields p.arrays → write_refusal p.fields x word out ≡ 0
+    → packet_due (packet_of p.fields p.arrays x word) word ≡ answered p
+read_whole p x word out t ok =
+    let bs = packet_of p.fields p.arrays x word in
+    let b = read_back p.fields p.arrays x word out t ok in
+    let q = answer_said (read_refusal bs word) (fields_of bs) p.fields (sym b.0) in
+    let arrays = after_done (read_refusal bs word) (arrays_of bs) no_arrays (arrays_of bs) q.0 refl ∙ b.1 in
+    sym (say_answered _ (record { fields = fields_of bs; arrays = arrays_of bs }) p q.0 (λ i. record { fields = q.1 i; arrays = sym arrays i }))

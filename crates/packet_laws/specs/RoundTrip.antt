@@ -6,10 +6,11 @@ use Rattle.octets.specs.Refusal.{refuse◌unless◌else◌, ◌then◌, Said, an
 use Rattle.checksum.specs.Sum.{packet_sum}
 use Rattle.packet_layout.specs.Layout as columns
 use Rattle.packet_check.specs.Refusal.{read_refusal}
-use Rattle.packet.specs.Fields.{fields_of, arrays_of, carried_of, no_arrays}
+use Rattle.packet.specs.Fields.{fields_of, arrays_of, carried_of}
 use Rattle.packet.specs.Read.{read_due, read_arrays}
 use Rattle.packet.specs.declared.PacketFields.{PacketFields}
 use Rattle.packet.specs.declared.PacketArrays.{PacketArrays}
+use Rattle.packet.specs.declared.Packet.{Packet}
 use Rattle.packet_writer.specs.Write.{packet_of, write_refusal}
 
 -- what the types of the fields and arrays say of their values, as far as a round trip needs it: a field of one byte is its own byte, and
@@ -51,9 +52,6 @@ copy_due bs word out = say (copy_refusal bs word out) tt
 abbrev pub copy_bytes : List ℕ → ℕ → List ℕ → List ℕ
 copy_bytes bs word out = after (copy_refusal bs word out) bs out
 
--- writing and reading again: the writer's refusals, else the fields and arrays that were given
-abbrev pub echo_due : PacketFields → List ℕ → ℕ → List ℕ → Said PacketFields
-echo_due f x word out = say (write_refusal f x word out) f
-
-abbrev pub echo_arrays : PacketFields → PacketArrays → List ℕ → ℕ → List ℕ → PacketArrays
-echo_arrays f a x word out = after (write_refusal f x word out) a no_arrays
+-- writing and reading again: the writer's refusals, else the packet that was given
+abbrev pub echo_due : Packet → List ℕ → ℕ → List ℕ → Said Packet
+echo_due p x word out = say (write_refusal p.fields x word out) p

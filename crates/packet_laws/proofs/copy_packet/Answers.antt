@@ -1,35 +1,42 @@
 -- The reader refuses, or the writer is given what was read.
-use mathlib.Core.Path.{ap, sym, refl, ◌∙◌}
 use Prim.Native.Nat.{ℕ}
+use mathlib.Core.Path.{◌≡◌, ap, ◌∙◌}
 use mathlib.Core.List.{List}
 use Rattle.octets.specs.Bytes.{Octets}
-use Rattle.octets.specs.Refusal.{refusal_in, say}
-use Rattle.octets.proofs.Ladder.{say_refused, after_refused, after_done, number_say, answer_said, refusal_said}
-use Rattle.packet.specs.Fields.{fields_of, arrays_of, no_arrays}
-use Rattle.packet.specs.Read.{packet_said}
+use Rattle.octets.specs.Refusal.{refused, answered, say}
+use Rattle.octets.proofs.Ladder.{after_refused, answer_said, refusal_said}
+use Rattle.refusal.specs.Number.{number}
+use Rattle.refusal.proofs.Said.{number_not_0, say_handed_on}
+use Rattle.packet_check.specs.Refusal.{read_refusal}
+use Rattle.packet.specs.Fields.{fields_of, arrays_of}
+use Rattle.packet.specs.Read.{packet_due}
+use Rattle.packet.specs.declared.Packet.{Packet}
 use Rattle.packet_laws.proofs.WriteBack.{copy_refused, copy_number, copy_bytes}
 use Rattle.packet_laws.proofs.copy_packet.Goals as goal
 
-pub returns-in_default : goal.returns-in_default
-returns-in_default c =
+read : List ℕ → Packet
+read bs = record { fields = fields_of bs; arrays = arrays_of bs }
+
+pub returns-in_err-packet : goal.returns-in_err-packet
+unfolding read
+returns-in_err-packet c =
     let a = c.args in
-    let bs : List ℕ = a.bytes.now in
-    let p = c.read_packet-read.ensures in
-    let q = refusal_said _ _ (fields_of bs) (sym (ap packet_said c.in_default.is) ∙ p.0) in
-    let r = c.refusal_number.ensures ∙ ap refusal_in p.0 ∙ number_say _ (fields_of bs) in
-    let e = copy_refused bs a.sum_word a.out.now _ r (λ z. q.1 (sym r ∙ z)) in
-    (say_refused _ _ tt e (λ z. q.1 (sym r ∙ z)), after_refused _ _ bs a.out.now e (λ z. q.1 (sym r ∙ z)))
+    let bs = a.bytes.now in
+    let r = c.in_err-packet.field-0.0 in
+    let p : refused (number r) ≡ packet_due bs a.sum_word = c.in_err-packet.ensures in
+    let e = copy_refused bs a.sum_word a.out.now (number r) (refusal_said _ (read_refusal bs a.sum_word) (read bs) p).0 (number_not_0 r) in
+    (say_handed_on _ _ _ tt c.from_residual.ensures e, after_refused _ _ bs a.out.now e (number_not_0 r))
 
 pub returns : goal.returns
+unfolding read
 returns c =
-    let s = c in
-    let a = s.args in
-    let bs : List ℕ = a.bytes.now in
-    let p = c.read_packet-read.ensures in
-    let q = answer_said _ (fields_of bs) _ (sym (ap packet_said c.in-Accepted.is) ∙ p.0) in
-    let eb = p.1 ∙ sym (after_done _ (arrays_of bs) no_arrays (arrays_of bs) q.0 refl) in
-    let o : Octets bs = λ i. (c.shared_slice_known-1.given i).fits in
-    let n = copy_number bs a.sum_word a.out.now o q.0 _ _ _ q.1 eb c.carried-carried.ensures in
-    let l = copy_bytes bs a.sum_word a.out.now o q.0 _ _ _ q.1 eb c.carried-carried.ensures in
-    let w = c.write_packet.ensures in
-    (w.0 ∙ ap (λ (k : ℕ). say k tt) n, w.1 ∙ l)
+    let a = c.args in
+    let bs = a.bytes.now in
+    let p : answered c.in_ok-packet.packet ≡ packet_due bs a.sum_word = c.in_ok-packet.ensures in
+    let q = answer_said (read_refusal bs a.sum_word) (read bs) _ p in
+    let f = ap (λ (k : Packet). k.fields) q.1 in
+    let b = ap (λ (k : Packet). k.arrays) q.1 in
+    let o : Octets bs = λ i. (c.type_inv.bytes i).fits in
+    let n = copy_number bs a.sum_word a.out.now o q.0 _ _ _ f b c.carried.ensures in
+    let l = copy_bytes bs a.sum_word a.out.now o q.0 _ _ _ f b c.carried.ensures in
+    (c.write_packet.ensures.0 ∙ ap (λ (k : ℕ). say k tt) n, c.write_packet.ensures.1 ∙ l)

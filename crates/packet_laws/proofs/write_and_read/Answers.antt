@@ -1,19 +1,21 @@
 -- The writer refuses, or the reader is given what was written.
-use mathlib.Core.Path.{ap, sym, refl, ◌∙◌}
 use Prim.Native.Nat.{ℕ}
+use mathlib.Core.Path.{◌≡◌, refl, sym, ap, ◌∙◌}
 use mathlib.Core.List.{List}
-use Rattle.octets.proofs.Ladder.{say_refused, say_answered, after_refused, after_done, answer_said, refusal_said}
-use Rattle.packet.specs.Fields.{no_arrays}
-use Rattle.packet.specs.Read.{read_due, read_arrays}
-use Rattle.packet_writer.specs.Write.{packet_of, written_said}
-use Rattle.packet_laws.specs.RoundTrip.{Typed}
-use Rattle.packet_laws.proofs.ReadBack.{read_back}
 use borrow.Author.Rules.{rules}
+use Rattle.octets.specs.Refusal.{refused, answered}
+use Rattle.octets.proofs.Ladder.{say_answered, after_done, answer_said, refusal_said}
+use Rattle.refusal.specs.Number.{number}
+use Rattle.refusal.proofs.Said.{say_handed_on}
+use Rattle.packet.specs.Read.{packet_due}
+use Rattle.packet_writer.specs.Write.{write_refusal, write_due, packet_of}
+use Rattle.packet_laws.specs.RoundTrip.{Typed}
+use Rattle.packet_laws.proofs.ReadBack.{read_whole}
 use Rattle.packet_laws.proofs.write_and_read.Goals as goal
 
 -- the bounds of the types
-typed : (s : goal.After-read_packet) → Typed s.args.fields s.args.arrays
-typed s = record {
+typed : (c : goal.After-read_packet) → Typed c.args.packet.fields c.args.packet.arrays
+typed c = record {
   count_fits = search rules;
   time_fits = search rules;
   flags_fit = search rules;
@@ -26,24 +28,19 @@ typed s = record {
   bins_count = search rules;
 }
 
-pub returns-in-Refused : goal.returns-in-Refused
-returns-in-Refused c =
+pub returns-in_err-write_packet : goal.returns-in_err-write_packet
+returns-in_err-write_packet c =
     let a = c.args in
-    let w = c.write_packet-written.ensures in
-    let q = refusal_said _ _ tt (sym (ap written_said c.in-Refused.is) ∙ w.0) in
-    (say_refused _ _ a.fields q.0 (λ z. q.1 (sym q.0 ∙ z)), after_refused _ _ a.arrays no_arrays q.0 (λ z. q.1 (sym q.0 ∙ z)), w.1)
+    let p : refused (number c.in_err-write_packet.field-0.0) ≡ write_due a.packet.fields a.carried.now a.sum_word a.out.now = c.in_err-write_packet.ensures.0 in
+    let q = refusal_said _ (write_refusal a.packet.fields a.carried.now a.sum_word a.out.now) tt p in
+    (say_handed_on _ _ _ a.packet c.from_residual.ensures q.0, c.write_packet.ensures.1)
 
 pub returns : goal.returns
 returns c =
-    let s = c in
-    let a = s.args in
-    let w = c.write_packet-written.ensures in
-    let q = answer_said _ tt _ (sym (ap written_said c.in_default.is) ∙ w.0) in
-    let p : List ℕ = packet_of a.fields a.arrays a.carried.now a.sum_word in
-    let e = w.1 ∙ sym (after_done _ p a.out.now p q.0 refl) in
-    let t = read_back a.fields a.arrays a.carried.now a.sum_word a.out.now (typed s) q.0 in
-    let r = c.read_packet.ensures in (
-      r.0 ∙ ap (λ (l : List ℕ). read_due l a.sum_word) e ∙ t.0 ∙ say_answered _ a.fields a.fields q.0 refl,
-      r.1 ∙ ap (λ (l : List ℕ). read_arrays l a.sum_word) e ∙ t.1 ∙ after_done _ a.arrays no_arrays a.arrays q.0 refl,
-      w.1,
-    )
+    let a = c.args in
+    let d : answered c.in_ok-write_packet.field-0 ≡ write_due a.packet.fields a.carried.now a.sum_word a.out.now = c.in_ok-write_packet.ensures.0 in
+    let z = (answer_said (write_refusal a.packet.fields a.carried.now a.sum_word a.out.now) tt _ d).0 in
+    let p = packet_of a.packet.fields a.packet.arrays a.carried.now a.sum_word in
+    let e = c.write_packet.ensures.1 ∙ sym (after_done _ p a.out.now p z refl) in
+    let b = read_whole a.packet a.carried.now a.sum_word a.out.now (typed c) z in
+    (c.read_packet.ensures ∙ ap (λ (l : List ℕ). packet_due l a.sum_word) e ∙ b ∙ say_answered _ a.packet a.packet z refl, c.write_packet.ensures.1)
