@@ -82,6 +82,7 @@ pub struct RecordFields {
     pub link: PacketLink,
 }
 
+#[tactic(auto, unfolding(crate::specs::Fields::time_of))]
 fn read_time(bytes: &[u8]) -> FrameTime
     ensures { result ≡ time_of bytes.now }
 {
@@ -91,6 +92,7 @@ fn read_time(bytes: &[u8]) -> FrameTime
     }
 }
 
+#[tactic(auto, unfolding(crate::specs::Fields::position_of))]
 fn read_position(bytes: &[u8]) -> OrbitPosition
     ensures { result ≡ position_of bytes.now }
 {
@@ -104,6 +106,7 @@ fn read_position(bytes: &[u8]) -> OrbitPosition
     }
 }
 
+#[tactic(auto, unfolding(crate::specs::Fields::pointing_of))]
 fn read_pointing(bytes: &[u8]) -> Pointing
     ensures { result ≡ pointing_of bytes.now }
 {
@@ -114,6 +117,7 @@ fn read_pointing(bytes: &[u8]) -> Pointing
     }
 }
 
+#[tactic(auto, unfolding(crate::specs::Fields::ranges_of))]
 fn read_ranges(bytes: &[u8]) -> Ranges
     ensures { result ≡ ranges_of bytes.now }
 {
@@ -125,6 +129,7 @@ fn read_ranges(bytes: &[u8]) -> Ranges
     }
 }
 
+#[tactic(auto, unfolding(crate::specs::Fields::receiver_of))]
 fn read_receiver(bytes: &[u8]) -> Receiver
     ensures { result ≡ receiver_of bytes.now }
 {
@@ -138,6 +143,7 @@ fn read_receiver(bytes: &[u8]) -> Receiver
     }
 }
 
+#[tactic(auto, unfolding(crate::specs::Fields::link_of))]
 fn read_link(bytes: &[u8]) -> PacketLink
     ensures { result ≡ link_of bytes.now }
 {
@@ -149,6 +155,7 @@ fn read_link(bytes: &[u8]) -> PacketLink
 }
 
 // Reads the fields of any bytes, also of those that are refused as a record; a byte past the end reads as 0.
+#[tactic(auto, unfolding(crate::specs::Fields::fields_of))]
 pub fn read_fields(bytes: &[u8]) -> RecordFields
     ensures { result ≡ fields_of bytes.now }
 {
@@ -168,7 +175,5 @@ pub fn read_fields(bytes: &[u8]) -> RecordFields
 pub fn time_in_micros(time: FrameTime) -> i64
     ensures { result ≡ time_in_micros time }
 {
-    let whole = time.whole as i64;
-    let micros = time.micros as i64;
-    whole * 1_000_000 + micros
+    i64::from(time.whole) * 1_000_000 + i64::from(time.micros)
 }
