@@ -1,10 +1,8 @@
 -- A store for each column.
-use mathlib.Core.Path.{◌≡◌, refl, ap, ◌∙◌}
-use native.Mathlib.Omega.{arith}
+use mathlib.Core.Path.{◌≡◌, refl}
 use lib.ListN.{length}
 use Rattle.octets.specs.Bytes.{Octets}
 use Rattle.octets.specs.Table.{octets_of_all}
-use Rattle.octets.proofs.Store.{put_length}
 use Rattle.layout.specs.Row.{row_parts}
 use Rattle.layout.proofs.Store.{stop, ◌▸◌, puts_join}
 use Rattle.pedr_layout.specs.Block as columns
@@ -14,34 +12,25 @@ use Rattle.pedr_block_writer.proofs.Stores.{whole_stored, bytes_stored}
 use borrow.Author.Rules.{rules}
 use Rattle.pedr_block_writer.proofs.put_frame_3.Goals as goal
 
-pub slice_bounds-write_u16s-end-2 : goal.slice_bounds-write_u16s-end-2
-slice_bounds-write_u16s-end-2 c =
-    let n : length c.args.tracker ≡ 14 = search rules in
-    omega (arith, n)
-
 pub returns : goal.returns
 unfolding octets_of_all
 returns c =
-    let status_flags_length : length c.args.status_flags ≡ 2 = search rules in
-    let tracker_length : length c.args.tracker ≡ 14 = search rules in
+    let status_flags_length : length c.args.runs.now.status_flags ≡ 2 = search rules in
+    let tracker_length : length c.args.runs.now.range_gate_tracker_array ≡ 14 = search rules in
     let bytes : Octets c.args.carried.now = λ k. (c.type_inv.carried k).fits in
-    puts_join (row_parts (columns.columns_in columns.frame3) (frame3_row c.args.fields c.args.status_flags c.args.tracker c.args.carried.now)) (columns.columns_in columns.frame3) columns.block_start columns.block_end refl
-    (frame3_fits c.args.fields c.args.status_flags c.args.tracker _ status_flags_length tracker_length)
+    puts_join (row_parts (columns.columns_in columns.frame3) (frame3_row c.args.fields c.args.runs.now.status_flags c.args.runs.now.range_gate_tracker_array c.args.carried.now)) (columns.columns_in columns.frame3) columns.block_start columns.block_end refl
+    (frame3_fits c.args.fields c.args.runs.now.status_flags c.args.runs.now.range_gate_tracker_array _ status_flags_length tracker_length)
     (c.write_u16.ensures
     ▸ c.write_u16-2.ensures
     ▸ c.write_u8.ensures
     ▸ c.write_u8-2.ensures
     ▸ c.write_u16-3.ensures
-    ▸ whole_stored 2 c.args.status_flags _ _ _ status_flags_length c.write_u16s.ensures
+    ▸ whole_stored 2 c.args.runs.now.status_flags _ _ _ status_flags_length c.write_run.ensures
     ▸ c.write_u16-4.ensures
     ▸ c.write_u8-3.ensures
     ▸ c.write_u8-4.ensures
     ▸ c.write_u8-5.ensures
     ▸ c.write_u8-6.ensures
     ▸ bytes_stored c.args.carried.now _ _ _ _ _ bytes c.copy_part.ensures
-    ▸ c.write_u16s-2.ensures
+    ▸ c.write_run-2.ensures
     ▸ stop)
-
--- a store leaves the output's length
-pub shape_of-out : goal.shape_of-out
-shape_of-out c = ap length (returns c) ∙ put_length _ _ _

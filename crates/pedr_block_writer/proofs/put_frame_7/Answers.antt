@@ -1,9 +1,7 @@
 -- A store for each column.
-use mathlib.Core.Path.{refl, ap, ◌∙◌}
-use lib.ListN.{length}
+use mathlib.Core.Path.{refl}
 use Rattle.octets.specs.Bytes.{Octets}
 use Rattle.octets.specs.Table.{octets_of_all}
-use Rattle.octets.proofs.Store.{put_length}
 use Rattle.layout.specs.Row.{row_parts}
 use Rattle.layout.proofs.Store.{stop, ◌▸◌, puts_join}
 use Rattle.pedr_layout.specs.Block as columns
@@ -29,7 +27,3 @@ returns c =
     ▸ c.write_u16.ensures
     ▸ bytes_stored c.args.carried.now _ _ _ _ _ bytes c.copy_part-2.ensures
     ▸ stop)
-
--- a store leaves the output's length
-pub shape_of-out : goal.shape_of-out
-shape_of-out c = ap length (returns c) ∙ put_length _ _ _
