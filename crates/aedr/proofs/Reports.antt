@@ -1,32 +1,28 @@
 -- Laws of the lines and the closing line, as the functions store them.
 use Prim.Native.Nat.{ℕ, suc, ◌+◌, ◌-◌, ◌*◌, ◌<◌, ◌≤◌, ◌^◌}
-use mathlib.Core.Path.{◌≡◌, refl, sym, ap, ◌∙◌}
+use mathlib.Core.Path.{◌≡◌, refl}
 use mathlib.Core.Bool.{Bool, true, false, cond}
-use mathlib.Core.List.{List, [], ◌∷◌, ◌++◌}
-use native.Mathlib.Numerals.{add-one}
+use mathlib.Core.List.{List, []}
 use native.Mathlib.Omega.{arith}
 use lib.Dec.{ltb}
-use lib.ListN.{length, set}
+use lib.ListN.{length}
 use borrow.Author.Tests.{lt-ltb, le-ltb}
 use Rattle.octets.specs.Bytes.{put}
-use Rattle.aedr.specs.Decimal.{decimal}
 use Rattle.aedr.specs.Text.{TextAt}
 use Rattle.aedr.specs.Printed.{piece_count, piece, answer_of, line, lines, all_lines, total}
 use Rattle.aedr.specs.Chunks.{line_room, total_room, report, closing}
-use Rattle.aedr.proofs.Texts.{text_then, text_one, text_none}
+use Rattle.aedr.proofs.Texts.{text_then, text_none}
 
 -- no line yet, and one line more
 pub lines_none : (input s : List ℕ) (done : ℕ) → TextAt s 0 (lines input done 0) 0 s
 unfolding lines
 lines_none input s done = text_none s 0
 
-pub lines_more : (input s t u : List ℕ) (done i at a r : ℕ) → a ≡ answer_of (piece input i) → TextAt s 0 (lines input done i) at t
-    → TextAt t at (line (done + i + 1) a) r u → TextAt s 0 (lines input done (i + 1)) r u
+pub lines_more : (input s t u : List ℕ) (done k number at a r : ℕ) → number ≡ done + suc k → a ≡ answer_of (piece input k) → TextAt s 0 (lines input done k) at t
+    → TextAt t at (line number a) r u → TextAt s 0 (lines input done (suc k)) r u
 unfolding lines
-lines_more input s t u done i at a r e p q =
-    let n : done + i + 1 ≡ done + suc i = omega arith in
-    rw (add-one i)
-    (text_then (lines input done i) (line (done + suc i) (answer_of (piece input i))) s t u 0 at r p (rw (n, e) at q))
+lines_more input s t u done k number at a r n e p q =
+    text_then (lines input done k) (line (done + suc k) (answer_of (piece input k))) s t u 0 at r p (rw (n, e) at q)
 
 -- what an entry stores at the start of its output: the text's length, and the output then
 abbrev pub Starts : List ℕ → List ℕ → ℕ → List ℕ → Type 0
@@ -63,10 +59,9 @@ no_room input s done h = stored s [] _ s 0 (report_none input done (length s) h)
 pub no_numbers : (input s : List ℕ) (done : ℕ) → 2 ^ 64 - 1 - done < piece_count input → Starts s (report input done (length s)) 0 s
 no_numbers input s done h = stored s [] _ s 0 (report_numbers input done (length s) h) (text_none s 0)
 
-pub all_lines_lem : (input s t : List ℕ) (done c r : ℕ) → c ≡ piece_count input → line_room * c ≤ length s → c ≤ 2 ^ 64 - 1 - done
-    → TextAt s 0 (lines input done c) r t → Starts s (report input done (length s)) r t
-all_lines_lem input s t done c r e h g p =
-    stored s (lines input done c) _ t r (report_lines input done (length s) (omega arith) (omega arith) ∙ ap (lines input done) (sym e)) p
+pub all_lines_lem : (input s t : List ℕ) (done r : ℕ) → line_room * piece_count input ≤ length s → piece_count input ≤ 2 ^ 64 - 1 - done
+    → TextAt s 0 (all_lines input done) r t → Starts s (report input done (length s)) r t
+all_lines_lem input s t done r h g p = stored s (all_lines input done) _ t r (report_lines input done (length s) h g) p
 
 -- the closing line
 pub no_closing : (s : List ℕ) (n : ℕ) → length s < total_room → Starts s (closing n (length s)) 0 s
@@ -77,11 +72,5 @@ pub closing_total : (n room : ℕ) → total_room ≤ room → closing n room �
 unfolding closing
 closing_total n room h = rw (le-ltb room total_room h)
 
-pub all_closing : (s t u : List ℕ) (n e : ℕ) → total_room ≤ length s → t ≡ put s 0 (114 ∷ 101 ∷ 99 ∷ 111 ∷ 114 ∷ 100 ∷ 115 ∷ 32 ∷ [])
-    → TextAt t 8 (decimal n) e u → Starts s (closing n (length s)) (e + 1) (set u e 10)
-unfolding total
-all_closing s t u n e h q p =
-    let word : List ℕ = 114 ∷ 101 ∷ 99 ∷ 111 ∷ 114 ∷ 100 ∷ 115 ∷ 32 ∷ [] in
-    stored s (word ++ (decimal n ++ (10 ∷ []))) _ (set u e 10) (e + 1) (closing_total n (length s) h)
-    (text_then word (decimal n ++ (10 ∷ [])) s t (set u e 10) 0 8 (e + 1) (refl, q)
-    (text_then (decimal n) (10 ∷ []) t u (set u e 10) 8 e (e + 1) p (text_one u e 10)))
+pub all_closing : (s t : List ℕ) (n r : ℕ) → total_room ≤ length s → TextAt s 0 (total n) r t → Starts s (closing n (length s)) r t
+all_closing s t n r h p = stored s (total n) _ t r (closing_total n (length s) h) p

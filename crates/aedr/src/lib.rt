@@ -3,10 +3,14 @@
 
 ghost use Rattle.std.specs.Prelude.{◌≡◌, ◌+◌, ◌*◌, ◌<◌, ◌≤◌, ◌^◌, length, take};
 ghost use Rattle.octets.specs.Bytes.{put};
+ghost use Rattle.octets.specs.Refusal.{refusal_in};
+ghost use Rattle.refusal.specs.Number.{said};
 ghost use Rattle.aedr.specs.Decimal.{decimal};
 ghost use Rattle.aedr.specs.Text.{TextAt};
-ghost use Rattle.aedr.specs.Printed.{piece_size, pieces_in, piece_count, piece as Printed·piece, answer_of, line, lines};
+ghost use Rattle.aedr.specs.Printed.{pieces_in, piece_count, answer_of, line, all_lines};
 ghost use Rattle.aedr.specs.Chunks.{line_room, report as Chunks·report, closing, ChunksPrintTheWhole};
+
+use refusal::Refusal;
 
 // The size of an AEDR record, and of each piece but a short last one.
 pub const PIECE: usize = 1230;
@@ -27,18 +31,23 @@ pub const CHUNK: usize = CHUNK_PIECES * PIECE;
 
 pub const CHUNK_ROOM: usize = CHUNK_PIECES * LINE_ROOM;
 
+// Stores the text from index at on, and answers where it ends.
+// No struct of out and at: a contract would have to follow out through its field, where TextAt names both.
+fn put_text(out: &mut [u8], at: usize, text: &[u8]) -> usize
+    requires { at + length text.now ≤ length out.old }
+    ensures { TextAt out.old at text.now result out.new }
+{
+    octets::write_into(text, at, out);
+    at + text.len()
+}
+
 // Stores n in decimal from index at on, and answers where it ends.
 fn put_number(out: &mut [u8], at: usize, n: u64) -> usize
     requires { at + length (decimal n) ≤ length out.old }
     ensures { TextAt out.old at (decimal n) result out.new }
 {
-    if n < 10 {
-        out[at] = 48 + n as u8;
-        return at + 1;
-    }
-    let end = put_number(out, at, n / 10);
-    out[end] = 48 + (n % 10) as u8;
-    end + 1
+    let mut digits = itoa::Buffer::new();
+    put_text(out, at, digits.format(n).as_bytes())
 }
 
 // Stores the line of one piece from index at on, and answers where it ends.
@@ -48,57 +57,44 @@ fn put_line(out: &mut [u8], at: usize, number: u64, answer: u8) -> usize
     ensures upper_bound { result ≤ at + line_room }
 {
     let space = put_number(out, at, number);
-    out[space] = b' ';
-    let end = put_number(out, space + 1, answer as u64);
-    out[end] = b'\n';
-    end + 1
+    let second = put_text(out, space, b" ");
+    let end = put_number(out, second, answer as u64);
+    put_text(out, end, b"\n")
 }
 
 // How many pieces n bytes are cut into, the last perhaps short.
 pub fn count_pieces(n: usize) -> usize
     ensures { result ≡ pieces_in n }
 {
-    if n % PIECE == 0 {
-        return n / PIECE;
-    }
-    n / PIECE + 1
+    n.div_ceil(PIECE)
 }
 
-// The answer for a piece: the refusal of its packet by the published sum word, or 0. A piece shorter than its header has an empty packet.
-pub fn answer(piece: &[u8]) -> u8
-    ensures { result ≡ answer_of piece.now }
+// The answer for a piece: that of its packet's check by the published sum word. A piece shorter than its header has an empty packet.
+pub fn answer(piece: &[u8]) -> Result<(), Refusal>
+    ensures { refusal_in (said result) ≡ answer_of piece.now }
 {
-    if piece.len() < HEADER {
-        return 1;
-    }
-    packet_check::packet_refusal(&piece[HEADER..], packet_layout::PUBLISHED_SUM_WORD)
+    let start = HEADER.min(piece.len());
+    packet_check::check_packet(&piece[start..], packet_layout::PUBLISHED_SUM_WORD)
 }
 
-// The answer for piece i of the input, from 0.
-fn answer_at(input: &[u8], i: usize) -> u8
-    requires { piece_size * i < length input.now }
-    ensures { (result ≡ answer_of (Printed·piece input.now i)) × (result < 100) }
+// The number that is printed for a piece.
+fn answer_number(piece: &[u8]) -> u8
+    ensures { (result ≡ answer_of piece.now) × (result < 100) }
 {
-    let start = PIECE * i;
-    if input.len() - start < PIECE {
-        return answer(&input[start..]);
-    }
-    let end = start + PIECE;
-    answer(&input[start..end])
+    refusal::number_of(answer(piece))
 }
 
 // Stores the lines of all the pieces, the first of which has the number done + 1.
-fn put_lines(input: &[u8], done: u64, count: usize, out: &mut [u8]) -> usize
-    requires { (count ≡ piece_count input.now) × ((line_room * count ≤ length out.old) × (done + count < 2 ^ 64)) }
-    ensures text_at { TextAt out.old 0 (lines input.now done count) result out.new }
-    ensures upper_bound { result ≤ line_room * count }
+fn put_lines(input: &[u8], done: u64, out: &mut [u8]) -> usize
+    requires { (line_room * piece_count input.now ≤ length out.old) × (done + piece_count input.now < 2 ^ 64) }
+    ensures text_at { TextAt out.old 0 (all_lines input.now done) result out.new }
+    ensures upper_bound { result ≤ line_room * piece_count input.now }
 {
-    let mut i: usize = 0;
-    let mut at: usize = 0;
-    while i < count {
-        let answer = answer_at(input, i);
-        at = put_line(out, at, done + i as u64 + 1, answer);
-        i = i + 1;
+    let mut at = 0;
+    let mut number = done;
+    for piece in input.chunks(PIECE) {
+        number += 1;
+        at = put_line(out, at, number, answer_number(piece));
     }
     at
 }
@@ -111,13 +107,10 @@ pub fn report(input: &[u8], done: u64, out: &mut [u8]) -> usize
     ensures upper_bound { (result ≤ length out.new) × (result ≡ length (take result out.new)) }
 {
     let count = count_pieces(input.len());
-    if out.len() / LINE_ROOM < count {
+    if out.len() / LINE_ROOM < count || u64::MAX - done < count as u64 {
         return 0;
     }
-    if u64::MAX - done < count as u64 {
-        return 0;
-    }
-    put_lines(input, done, count, out)
+    put_lines(input, done, out)
 }
 
 // Stores the closing line at the start of out, and answers how many bytes it takes. Where out has fewer than TOTAL_ROOM bytes, it stores
@@ -130,10 +123,9 @@ pub fn close(n: u64, out: &mut [u8]) -> usize
     if out.len() < TOTAL_ROOM {
         return 0;
     }
-    octets::write_into(b"records ", 0, out);
-    let end = put_number(out, 8, n);
-    out[end] = b'\n';
-    end + 1
+    let word = put_text(out, 0, b"records ");
+    let end = put_number(out, word, n);
+    put_text(out, end, b"\n")
 }
 
 // The texts of an input that is read in chunks, one after the other, are what is to be printed for the whole input.

@@ -1,7 +1,5 @@
 -- The two numbers, each with the byte after it.
-use Prim.Native.Nat.{ℕ, ◌≤◌, ◌<◌, ◌^◌}
-use native.Mathlib.Omega.{arith}
-use lib.ListN.{length, length-set}
+use Rattle.std.proofs.Common.{ℕ, ◌≤◌, ◌<◌, ◌^◌, length, arith}
 use Rattle.aedr.specs.Decimal.{decimal}
 use Rattle.aedr.proofs.Texts.{text_line}
 use Rattle.aedr.proofs.Digits.{decimal_length}
@@ -9,44 +7,24 @@ use Rattle.aedr.proofs.put_line.Goals as goal
 
 -- the two numbers have at most 20 digits and 2
 digits_room : (n a : ℕ) → n < 2 ^ 64 → a < 100 → (length (decimal n) ≤ 20) × (length (decimal a) ≤ 2)
-digits_room n a h k = (decimal_length 19 n (omega arith), decimal_length 1 a (omega arith))
+digits_room n a h k = (decimal_length 20 n (omega arith) (omega arith) h, decimal_length 2 a (omega arith) (omega arith) (omega arith))
 
 pub put_number-space-requires : goal.put_number-space-requires
 put_number-space-requires c = omega (arith, digits_room c.args.number c.args.answer (omega arith) (omega arith))
 
-pub bounds-out-space : goal.bounds-out-space
-bounds-out-space c =
-    let n = c.put_number-space in
-    omega (arith, digits_room c.args.number c.args.answer (omega arith) (omega arith), n.ensures.0, n.auto.out)
-
-pub overflow_add-space : goal.overflow_add-space
-overflow_add-space c =
-    let n = c.put_number-space in
-    omega (arith, digits_room c.args.number c.args.answer (omega arith) (omega arith), n.ensures.0, n.auto.out)
+pub put_text-second-requires : goal.put_text-second-requires
+put_text-second-requires c = omega (arith, digits_room c.args.number c.args.answer (omega arith) (omega arith), c.put_number-space.auto.out)
 
 pub put_number-end-requires : goal.put_number-end-requires
 put_number-end-requires c =
-    let n = c.put_number-space in
-    simp length-set (omega (arith, digits_room c.args.number c.args.answer (omega arith) (omega arith), n.ensures.0, n.auto.out))
+    omega (arith, digits_room c.args.number c.args.answer (omega arith) (omega arith), c.put_number-space.auto.out, c.put_text-second.auto.out)
 
-pub bounds-out-end : goal.bounds-out-end
-bounds-out-end c =
-    let n = c.put_number-space in
-    let v = c.put_number-end in
-    omega (arith, digits_room c.args.number c.args.answer (omega arith) (omega arith), n.ensures.0, n.auto.out, v.ensures.0, v.auto.out, length-set n.new.out n.result 32)
-
-pub overflow_add-result : goal.overflow_add-result
-overflow_add-result c =
-    let n = c.put_number-space in
-    let v = c.put_number-end in
-    omega (arith, digits_room c.args.number c.args.answer (omega arith) (omega arith), n.ensures.0, n.auto.out, v.ensures.0)
+pub put_text-requires : goal.put_text-requires
+put_text-requires c =
+    omega (arith, digits_room c.args.number c.args.answer (omega arith) (omega arith), c.put_number-space.auto.out, c.put_text-second.auto.out, c.put_number-end.auto.out)
 
 pub returns : goal.returns
-returns c =
-    let a = c.args in
-    let n = c.put_number-space in
-    let v = c.put_number-end in
-    record {
-      text_at = text_line a.out.now _ _ a.at n.result v.result a.number a.answer n.ensures v.ensures;
-      upper_bound = omega (arith, digits_room a.number a.answer (omega arith) (omega arith), n.ensures.0, v.ensures.0);
-    }
+returns c = record {
+  text_at = text_line _ _ _ _ _ _ _ _ _ _ _ _ c.put_number-space.ensures c.put_text-second.ensures c.put_number-end.ensures c.put_text.ensures;
+  upper_bound = omega (arith, digits_room c.args.number c.args.answer (omega arith) (omega arith));
+}

@@ -1,25 +1,20 @@
--- Nothing for want of room, nothing for want of numbers, or all the lines.
-use native.Mathlib.Omega.{arith}
+-- Nothing for want of room or of numbers, or all the lines.
+use Rattle.std.proofs.Common.{arith}
 use Rattle.aedr.proofs.Reports.{no_room, no_numbers, all_lines_lem}
-use Rattle.aedr.proofs.Texts.{counts}
 use Rattle.aedr.proofs.report.Goals as goal
+use Rattle.aedr.proofs.report.Goals.{then-out-count-via-then-out-count, then-out-count-via-else-out-count+then-done-count}
 
-pub returns-then-out-count : goal.returns-then-out-count
-returns-then-out-count c =
+pub returns-then-out-count-clause-value : goal.returns-then-out-count-clause-value
+returns-then-out-count-clause-value c =
     let a = c.args in
-    record { value = no_room a.input.now a.out.now a.done (omega (arith, c.count_pieces-count.ensures)); upper_bound = counts a.out.now 0 (omega arith) }
+    elim c.then-out-count.branch [
+      | then-out-count-via-then-out-count w ↦ no_room a.input.now a.out.now a.done (omega (arith, w.if-out-count.true, c.count_pieces-count.ensures))
+      | then-out-count-via-else-out-count+then-done-count w ↦ no_numbers a.input.now a.out.now a.done (omega (arith, w.if-done-count.true, c.count_pieces-count.ensures))
+    ]
 
-pub returns-then-done-count : goal.returns-then-done-count
-returns-then-done-count c =
-    let a = c.args in
-    let n = c.count_pieces-count.ensures in
-    record { value = no_numbers a.input.now a.out.now a.done (omega arith); upper_bound = counts a.out.now 0 (omega arith) }
-
-pub returns : goal.returns
-returns c =
+pub returns-clause-value : goal.returns-clause-value
+returns-clause-value c =
     let a = c.args in
     let n = c.count_pieces-count in
-    let p = c.put_lines in record {
-      value = all_lines_lem a.input.now a.out.now _ a.done n.result p.result n.ensures (omega arith) (omega arith) p.ensures.text_at;
-      upper_bound = counts p.new.out _ (omega (arith, p.ensures.upper_bound, p.auto.out));
-    }
+    let p = c.put_lines in
+    all_lines_lem a.input.now a.out.now _ a.done p.result (omega arith) (omega arith) p.ensures.text_at

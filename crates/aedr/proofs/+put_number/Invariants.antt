@@ -1,5 +1,0 @@
--- One digit less each time.
-use Rattle.aedr.proofs.+put_number.Given as goal
-
-abbrev pub decreases-put_number : goal.decreases-put_number
-decreases-put_number l = l.n
