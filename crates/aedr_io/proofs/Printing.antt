@@ -4,11 +4,12 @@ use mathlib.Core.Path.{◌≡◌, refl, sym, ap, ◌∙◌}
 use mathlib.Core.Bool.{Bool, true, false}
 use mathlib.Core.List.{List}
 use native.Mathlib.Omega.{arith}
-use Rattle.program_output.specs.declared.Printed.{Printed}
+use Rattle.std.proofs.Common.{Result}
+use Rattle.program_output.specs.declared.Unwritten.{Unwritten}
 use Rattle.program_io.specs.declared.Next.{Next}
 use Rattle.program_io.specs.declared.Next.TheVariants.{Continue, Close, Stop, TooLong}
 use Rattle.program_input.specs.Chunk.{chunk_bytes}
-use Rattle.program_output.specs.Written.{TextWritten, is_whole}
+use Rattle.program_output.specs.Written.{is_whole}
 use Rattle.program_io.specs.Next.{chunks_most, after_chunk, is_continue, is_close}
 use Rattle.program_input.proofs.Reading.{count_fits}
 use Rattle.program_io.proofs.Following.{is_continue_lem, is_close_lem, continue_full}
@@ -43,7 +44,7 @@ module _ (p : Progress) (full done : ℕ) (buf out : List ℕ) (h : ChunkPrinted
   pub goes_on : is_continue p.next ≡ true → done ≡ chunk_pieces * full → (p.records ≡ chunk_pieces * (full + 1)) × (full < chunks_most - 1)
   goes_on e d =
       let n : p.next ≡ Continue = is_continue_lem p.next e in
-      let f = continue_full full chunk_size (is_whole p.printed.written) p.chunk h.within (ap is_continue (sym h.next) ∙ e) in
+      let f = continue_full full chunk_size (is_whole p.printed) p.chunk h.within (ap is_continue (sym h.next) ∙ e) in
       let r : p.records ≡ records_after Continue done chunk_size =
       h.records ∙ ap (λ (k : Next). records_after k done (chunk_bytes p.chunk)) n ∙ ap (records_after Continue done) f.0 in
       (omega arith, f.1)
@@ -61,12 +62,10 @@ module _ (p : Progress) (full done : ℕ) (buf out : List ℕ) (h : ChunkPrinted
 
 -- the check, before its closing line and with it
 module _ (r : Chunks) (buf out : List ℕ) (h : ChunksPrinted r buf out) where
-  pub closed : is_close r.last.next ≡ true → (complete : Bool) (printed : Printed) → TextWritten printed printed.size
-      → complete ≡ is_close (after_chunk r.full (is_whole printed.written) r.last.chunk)
+  pub closed : is_close r.last.next ≡ true → (complete : Bool) (printed : Result Unit Unwritten) → complete ≡ is_close (after_chunk r.full (is_whole printed) r.last.chunk)
       → FileChecked (record { records = r.last.records; complete = complete; full = r.full; chunk = r.last.chunk; printed = printed })
-  closed e complete printed t w = record {
+  closed e complete printed w = record {
     within = h.last.within;
-    written = t;
     complete = w;
     most = h.most;
     low = low r.last r.full (chunk_pieces * r.full) buf out h.last;

@@ -11,6 +11,7 @@ use Rattle.program_io.specs.Next.{chunks_most}
 use Rattle.aedr.specs.Printed.{all_lines, total}
 use Rattle.aedr.specs.Chunks.{chunk_pieces, chunk_size, chunk_room, report, closing}
 use Rattle.aedr.proofs.Reports.{closing_total}
+use Rattle.std.proofs.Common.{Result}
 use Rattle.program_input.specs.declared.Chunk.{Chunk}
 use Rattle.program_input.specs.Chunk.{chunk_bytes}
 use Rattle.aedr_io.specs.Check.{bytes_of}
@@ -28,7 +29,7 @@ report_lines buf n done room l k h =
     ap (report (take n buf) done) k ∙ chunk_lines (take n buf) done (omega (arith, length-take n buf)) (omega (arith, length-take n buf))
 
 -- what stands at the start of the output after a chunk's report
-pub chunk_text : (chunk : Chunk) (buf out new : List ℕ) (read r done : ℕ) → length buf ≡ chunk_size → length out ≡ chunk_room → done ≤ chunk_pieces * chunks_most
+pub chunk_text : {E : Type 0} (chunk : Result Chunk E) (buf out new : List ℕ) (read r done : ℕ) → length buf ≡ chunk_size → length out ≡ chunk_room → done ≤ chunk_pieces * chunks_most
     → read ≡ chunk_bytes chunk → r ≡ length (report (take read buf) done (length out)) → new ≡ put out 0 (report (take read buf) done (length out)) → r ≤ length out
     → take r new ≡ all_lines (bytes_of chunk buf) done
 chunk_text chunk buf out new read r done l k h c e q f =

@@ -9,54 +9,57 @@
 // - that a failure is told.
 #![tactic(auto)]
 
-ghost use Rattle.std.specs.Prelude.{◌≡◌, ◌*◌, ◌≤◌, length};
+ghost use Rattle.std.specs.Prelude.{◌*◌, ◌≡◌, ◌≤◌};
 ghost use Rattle.program_io.specs.Next.{chunks_most};
 ghost use Rattle.program_input.specs.Chunk.{ChunkTakes};
 ghost use Rattle.program_output.specs.Written.{text_taken};
 ghost use Rattle.std.specs.Io.KnownBytes.{Appends};
 ghost use Rattle.aedr.specs.Printed.{all_lines};
-ghost use Rattle.aedr.specs.Chunks.{chunk_pieces, chunk_size, chunk_room};
+ghost use Rattle.aedr.specs.Chunks.{chunk_pieces};
 ghost use Rattle.aedr_io.specs.Check.{records_after, bytes_of, ChunkPrinted, ChunksPrinted, ChunksMoved, Ran, FileChecked, WholePrinted};
 
 use program_input::Chunk;
 use program_io::Next;
-use program_output::Printed;
+use program_output::Unwritten;
 use std::io;
+
+// The bytes of a chunk, and the text of its lines.
+type ChunkBytes = [u8; aedr::CHUNK];
+
+type ChunkText = [u8; aedr::CHUNK_ROOM];
 
 // The pieces whose lines are written, with `records` before a chunk of `read` bytes.
 fn records_after(next: Next, records: u64, read: usize) -> u64
     requires { records ≤ chunk_pieces * chunks_most }
     ensures { result ≡ records_after next records read }
 {
-    let pieces = aedr::count_pieces(read) as u64;
     match next {
-        Next::Continue => records + pieces,
-        Next::Close => records + pieces,
         Next::Stop => records,
-        Next::TooLong => records + pieces,
+        Next::Continue | Next::Close | Next::TooLong => records + aedr::count_pieces(read) as u64,
     }
 }
 
 // What a chunk came to: its bytes, the printing of its text, what follows, and the pieces whose lines were written so far.
 #[derive(Clone, Copy)]
 struct Progress {
-    chunk: Chunk,
-    printed: Printed,
+    chunk: io::Result<Chunk>,
+    printed: Result<(), Unwritten>,
     next: Next,
     records: u64,
 }
 
 // Prints the chunk after `full` others of `records` pieces.
+// No struct of the streams and buffers that the functions hand on: a contract would have to follow what each of them borrows through its fields.
 fn print_chunk<R: io::Read, W: io::Write, E: io::Write>(
     input: &mut R,
     output: &mut W,
     errors: &mut E,
     full: u64,
     records: u64,
-    buf: &mut [u8],
-    out: &mut [u8],
+    buf: &mut ChunkBytes,
+    out: &mut ChunkText,
 ) -> Progress
-    requires { (length buf.old ≡ chunk_size) × (length out.old ≡ chunk_room) × (records ≤ chunk_pieces * chunks_most) }
+    requires { records ≤ chunk_pieces * chunks_most }
     ensures printed { ChunkPrinted result full records buf.new out.new }
     ensures reads { ChunkTakes (R.remaining input.old) (R.remaining input.new) result.chunk buf.new }
     ensures writes { Appends (W.contents output.old) (W.contents output.new)
@@ -88,36 +91,36 @@ fn print_chunks<R: io::Read, W: io::Write, E: io::Write>(
     input: &mut R,
     output: &mut W,
     errors: &mut E,
-    buf: &mut [u8],
-    out: &mut [u8],
+    buf: &mut ChunkBytes,
+    out: &mut ChunkText,
 ) -> Chunks
-    requires { (length buf.old ≡ chunk_size) × (length out.old ≡ chunk_room) }
     ensures printed { ChunksPrinted result buf.new out.new }
     ensures moved { ChunksMoved result buf.new (R.remaining input.old) (R.remaining input.new)
         (W.contents output.old) (W.contents output.new) }
 {
-    let mut records: u64 = 0;
-    let mut full: u64 = 0;
+    let mut records = 0;
+    let mut full = 0;
+    // No `for` over 0..CHUNKS: what follows the last of them is told by `after_chunk`, and the code after that loop would never run.
     loop {
         let last = print_chunk(input, output, errors, full, records, buf, out);
-        let next = last.next;
-        if !program_io::continues(next) {
+        if !program_io::continues(last.next) {
             return Chunks { full, last };
         }
         records = last.records;
-        full = full + 1;
+        full += 1;
     }
 }
 
 // How many pieces had their lines written, and whether the input ended and all was written, the closing line too. For the contracts: how many
 // chunks filled the buffer and were written, the one after them, and the printing of the last text.
+// No `Result`: the pieces are told of a check that is not complete too, so both sides would hold the same.
 #[derive(Clone, Copy)]
 pub struct Checked {
     pub records: u64,
     pub complete: bool,
     full: u64,
-    chunk: Chunk,
-    printed: Printed,
+    chunk: io::Result<Chunk>,
+    printed: Result<(), Unwritten>,
 }
 
 // Prints the chunks, and where the input ended the closing line.
@@ -125,21 +128,20 @@ fn run<R: io::Read, W: io::Write, E: io::Write>(
     input: &mut R,
     output: &mut W,
     errors: &mut E,
-    buf: &mut [u8],
-    out: &mut [u8],
+    buf: &mut ChunkBytes,
+    out: &mut ChunkText,
 ) -> Checked
-    requires { (length buf.old ≡ chunk_size) × (length out.old ≡ chunk_room) }
     ensures ran { Ran result out.new }
     ensures printed { WholePrinted result (R.remaining input.old) (R.remaining input.new)
         (W.contents output.old) (W.contents output.new) }
 {
-    let chunks = print_chunks(input, output, errors, buf, out);
-    let full = chunks.full;
-    let last = chunks.last;
-    let chunk = last.chunk;
-    let printed = last.printed;
-    let next = last.next;
-    let records = last.records;
+    let Chunks { full, last } = print_chunks(input, output, errors, buf, out);
+    let Progress {
+        chunk,
+        printed,
+        next,
+        records,
+    } = last;
     if !program_io::closes(next) {
         return Checked {
             records,
@@ -173,7 +175,7 @@ pub fn check_file<R: io::Read, W: io::Write, E: io::Write>(
     ensures printed { WholePrinted result (R.remaining input.old) (R.remaining input.new)
         (W.contents output.old) (W.contents output.new) }
 {
-    let mut buf = [0u8; aedr::CHUNK];
-    let mut out = [0u8; aedr::CHUNK_ROOM];
+    let mut buf: ChunkBytes = [0; _];
+    let mut out: ChunkText = [0; _];
     run(input, output, errors, &mut buf, &mut out)
 }

@@ -1,5 +1,5 @@
 -- What follows a chunk.
-use Rattle.std.specs.Prelude.{ℕ, ◌-◌, ◌^◌, Bool, true, false, cond, ltb}
+use Rattle.std.specs.Prelude.{ℕ, ◌-◌, ◌^◌, Bool, true, false, cond, ltb, Result, Ok, Err}
 use Rattle.program_input.specs.declared.Chunk.{Chunk}
 use Rattle.program_input.specs.declared.Chunk.TheVariants as Ch
 use Rattle.program_io.specs.declared.Next.{Next}
@@ -14,11 +14,11 @@ abbrev pub after_full : ℕ → Next
 after_full full = cond (ltb full (chunks_most - 1)) Nx.Continue Nx.TooLong
 
 -- After `full` chunks and this one, by whether all of its text was written. Nothing more is printed after a failed read, nor after a failed write.
-abbrev pub after_chunk : ℕ → Bool → Chunk → Next
+abbrev pub after_chunk : {E : Type 0} → ℕ → Bool → Result Chunk E → Next
 after_chunk full false chunk = Nx.Stop
-after_chunk full true Ch.Failed = Nx.Stop
-after_chunk full true (Ch.Full n) = after_full full
-after_chunk full true (Ch.Last n) = Nx.Close
+after_chunk full true (Err e) = Nx.Stop
+after_chunk full true (Ok (Ch.Full n)) = after_full full
+after_chunk full true (Ok (Ch.Last n)) = Nx.Close
 
 abbrev pub is_continue : Next → Bool
 is_continue Nx.Continue = true

@@ -6,10 +6,11 @@
 
 ghost use Rattle.std.specs.Prelude.{◌≡◌};
 ghost use Rattle.program_output.specs.Written.{is_whole};
-ghost use Rattle.program_io.specs.Next.{after_full, after_chunk, is_continue, is_close};
+ghost use Rattle.program_io.specs.Next.{after_chunk, is_continue, is_close};
 
 use program_input::Chunk;
-use program_output::{Printed, Written};
+use program_output::Unwritten;
+use std::io;
 use std::io::Write;
 
 // The most chunks that are read: a loop has to end, and nothing says that the input does.
@@ -25,38 +26,30 @@ pub enum Next {
     TooLong,
 }
 
-// What follows a full chunk that was written, after `full` others.
-fn after_full(full: u64) -> Next
-    ensures { result ≡ after_full full }
-{
-    if full < CHUNKS - 1 {
-        return Next::Continue;
-    }
-    Next::TooLong
-}
-
 // What follows a chunk after `full` others, by how its reads ended and how its text was written.
-fn next_after(full: u64, chunk: Chunk, written: Written) -> Next
-    ensures { result ≡ after_chunk full (is_whole written) chunk }
+fn next_after(full: u64, chunk: io::Result<Chunk>, printed: Result<(), Unwritten>) -> Next
+    ensures { result ≡ after_chunk full (is_whole printed) chunk }
 {
-    if let Written::Failed(_) = written {
-        return Next::Stop;
-    }
-    match chunk {
-        Chunk::Failed => Next::Stop,
-        Chunk::Full(_) => after_full(full),
-        Chunk::Last(_) => Next::Close,
+    match (printed, chunk) {
+        (Err(_), _) | (_, Err(_)) => Next::Stop,
+        (Ok(()), Ok(Chunk::Last(_))) => Next::Close,
+        (Ok(()), Ok(Chunk::Full(_))) if full < CHUNKS - 1 => Next::Continue,
+        (Ok(()), Ok(Chunk::Full(_))) => Next::TooLong,
     }
 }
 
 // What follows a chunk after `full` others, once its text was printed. An input that is too long is told on standard error.
-pub fn after_chunk<E: Write>(errors: &mut E, full: u64, chunk: Chunk, printed: Printed) -> Next
-    ensures { result ≡ after_chunk full (is_whole printed.written) chunk }
+pub fn after_chunk<E: Write>(
+    errors: &mut E,
+    full: u64,
+    chunk: io::Result<Chunk>,
+    printed: Result<(), Unwritten>,
+) -> Next
+    ensures { result ≡ after_chunk full (is_whole printed) chunk }
 {
-    let written = printed.written;
-    let next = next_after(full, chunk, written);
+    let next = next_after(full, chunk, printed);
     if let Next::TooLong = next {
-        program_output::print_error(errors, b"input too long\n");
+        let _ = program_output::print_error(errors, b"input too long\n");
     }
     next
 }
@@ -65,22 +58,12 @@ pub fn after_chunk<E: Write>(errors: &mut E, full: u64, chunk: Chunk, printed: P
 pub fn continues(next: Next) -> bool
     ensures { result ≡ is_continue next }
 {
-    match next {
-        Next::Continue => true,
-        Next::Close => false,
-        Next::Stop => false,
-        Next::TooLong => false,
-    }
+    matches!(next, Next::Continue)
 }
 
 // Whether the closing text follows.
 pub fn closes(next: Next) -> bool
     ensures { result ≡ is_close next }
 {
-    match next {
-        Next::Continue => false,
-        Next::Close => true,
-        Next::Stop => false,
-        Next::TooLong => false,
-    }
+    matches!(next, Next::Close)
 }

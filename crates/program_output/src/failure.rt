@@ -7,13 +7,9 @@ use std::str;
 
 // The system's text for an error, without its number.
 fn system_text(told: &[u8]) -> &str {
-    let Ok(text) = str::from_utf8(told) else {
-        return "";
-    };
-    match text.rsplit_once(" (os error ") {
-        Some((words, _)) => words,
-        None => text,
-    }
+    let text = str::from_utf8(told).unwrap_or("");
+    text.rsplit_once(" (os error ")
+        .map_or(text, |(words, _)| words)
 }
 
 // How the error is told, at the start of told, and the room that is left after it.
@@ -30,9 +26,7 @@ pub fn fail<E: Write>(errors: &mut E, what: &[u8], error: Error)
     let mut told = [0u8; 256];
     let left = put_error(error, &mut told);
     let text = system_text(&told[..told.len().saturating_sub(left)]);
-    let mut failure = None;
-    let _named = write(errors, what, &mut failure);
-    let _colon = write(errors, b": ", &mut failure);
-    let _text = write(errors, text.as_bytes(), &mut failure);
-    let _end = write(errors, b"\n", &mut failure);
+    for part in [what, b": ", text.as_bytes(), b"\n"] {
+        let _ = write(errors, part);
+    }
 }

@@ -21,6 +21,6 @@ loop-last-preserved g c =
     record {
       most = omega (arith, h.1);
       pieces = h.0;
-      moved = moved_more p.result l.full p.new.buf p.new.out _ _ _ _ _ _ (rw l.invariant.pieces at p.ensures.printed) e (p.auto.buf ∙ l.auto.buf ∙ c.requires.0)
+      moved = moved_more p.result l.full p.new.buf p.new.out _ _ _ _ _ _ (rw l.invariant.pieces at p.ensures.printed) e p.array_long
           l.invariant.moved p.ensures.reads (rw l.invariant.pieces at p.ensures.writes);
     }

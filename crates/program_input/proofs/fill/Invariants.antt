@@ -1,14 +1,13 @@
--- The last read and the bytes before it; each read that another follows leaves less room.
-use Rattle.std.proofs.Common.{length}
-use Rattle.program_input.specs.Chunk.{ReadsWithin}
-use Rattle.program_input.proofs.Reading.{reads_left, SoFar}
+-- The bytes so far stand at the start of the buffer; each read that another follows leaves less room.
+use Rattle.std.proofs.Common.{length, take, ◌-◌, ◌≤◌}
+use Rattle.std.specs.Io.KnownBytes.{Consumes}
 use Rattle.program_input.proofs.fill.Given as goal
 
 abbrev pub invariant-loop-count : goal.invariant-loop-count
 invariant-loop-count g l = record {
-  within : ReadsWithin l.before l.last (length l.initial.buf);
-  bytes : SoFar (g.R.Read.remaining l.initial.input) (g.R.Read.remaining l.input) l.before l.last l.buf;
+  within : l.count ≤ length l.buf;
+  bytes : Consumes (g.R.Read.remaining l.initial.input) (g.R.Read.remaining l.input) (take l.count l.buf);
 }
 
 abbrev pub decreases-loop-count : goal.decreases-loop-count
-decreases-loop-count g l = reads_left l.before l.last (length l.initial.buf)
+decreases-loop-count g l = length l.initial.buf - l.count

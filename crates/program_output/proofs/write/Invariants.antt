@@ -1,15 +1,13 @@
--- The last write and the bytes before it; each write that another follows leaves fewer.
-use Rattle.std.proofs.Common.{◌+◌, ◌≤◌, take}
+-- The bytes that were taken so far; each write takes some.
+use Rattle.std.proofs.Common.{length, take, ◌-◌, ◌≤◌}
 use Rattle.std.specs.Io.KnownBytes.{Appends}
-use Rattle.program_output.specs.Written.{bytes_taken}
-use Rattle.program_output.proofs.Writing.{writes_left}
 use Rattle.program_output.proofs.write.Given as goal
 
-abbrev pub invariant-loop-count : goal.invariant-loop-count
-invariant-loop-count g l = record {
-  within : l.before + bytes_taken l.last ≤ l.size;
-  bytes : Appends (g.W.Write.contents l.initial.out) (g.W.Write.contents l.out) (take (l.before + bytes_taken l.last) l.text);
+abbrev pub invariant-loop-taken : goal.invariant-loop-taken
+invariant-loop-taken g l = record {
+  within : l.taken ≤ length l.text;
+  bytes : Appends (g.W.Write.contents l.initial.out) (g.W.Write.contents l.out) (take l.taken l.text);
 }
 
-abbrev pub decreases-loop-count : goal.decreases-loop-count
-decreases-loop-count g l = writes_left l.before l.last l.size
+abbrev pub decreases-loop-taken : goal.decreases-loop-taken
+decreases-loop-taken g l = length l.text - l.taken
