@@ -17,28 +17,32 @@ impl Read for Closed {
     }
 }
 
-fn text(rt: HostRuntime, words: &str) {
-    let _ = rt.print(words);
-}
-
-fn answered(rt: HostRuntime, checked: Checked) {
-    if checked.complete {
-        text(rt, "complete ");
-    } else {
-        text(rt, "incomplete ");
-    }
-    let _ = rt.println(checked.records);
-}
+// The files of data/.
+const FILES: [&str; 10] = [
+    "empty",
+    "short_1",
+    "short_149",
+    "short_150",
+    "short_151",
+    "short_1229",
+    "exact",
+    "mixed",
+    "buffer",
+    "many",
+];
 
 fn check<R: Read>(rt: HostRuntime, input: &mut R) {
-    answered(
-        rt,
-        aedr_io::check_file(input, &mut rt.stdout(), &mut rt.stderr()),
-    );
+    let Checked {
+        records,
+        complete,
+        ..
+    } = aedr_io::check_file(input, &mut rt.stdout(), &mut rt.stderr());
+    let word = if complete { "complete" } else { "incomplete" };
+    let _ = println!(rt; "{word} {records}");
 }
 
-fn file(rt: HostRuntime, name: &str) {
-    let _ = rt.println(name);
+fn check_named(rt: HostRuntime, name: &str) {
+    let _ = println!(rt; "{name}");
     match File::open(&rt, name) {
         Ok(mut input) => check(rt, &mut input),
         Err(error) => program_output::fail(&mut rt.stderr(), name.as_bytes(), error),
@@ -46,16 +50,9 @@ fn file(rt: HostRuntime, name: &str) {
 }
 
 fn main(rt: HostRuntime) {
-    file(rt, "empty");
-    file(rt, "short_1");
-    file(rt, "short_149");
-    file(rt, "short_150");
-    file(rt, "short_151");
-    file(rt, "short_1229");
-    file(rt, "exact");
-    file(rt, "mixed");
-    file(rt, "buffer");
-    file(rt, "many");
-    text(rt, "no file\n");
+    for name in FILES {
+        check_named(rt, name);
+    }
+    let _ = println!(rt; "no file");
     check(rt, &mut Closed);
 }
