@@ -131,6 +131,7 @@ pub fn read_frame_1(bytes: &[u8]) -> Frame1Fields
     }
 }
 
+#[tactic(auto, unfolding(crate::specs::Frames::frame2_of))]
 pub fn read_frame_2(bytes: &[u8]) -> Frame2Fields
     ensures { result ≡ frame2_of bytes.now }
 {
@@ -152,6 +153,7 @@ pub fn read_frame_2(bytes: &[u8]) -> Frame2Fields
     }
 }
 
+#[tactic(auto, unfolding(crate::specs::Frames::frame3_of))]
 pub fn read_frame_3(bytes: &[u8]) -> Frame3Fields
     ensures { result ≡ frame3_of bytes.now }
 {
@@ -169,6 +171,7 @@ pub fn read_frame_3(bytes: &[u8]) -> Frame3Fields
     }
 }
 
+#[tactic(auto, unfolding(crate::specs::Frames::frame5_of))]
 pub fn read_frame_5(bytes: &[u8]) -> Frame5Fields
     ensures { result ≡ frame5_of bytes.now }
 {
@@ -178,6 +181,7 @@ pub fn read_frame_5(bytes: &[u8]) -> Frame5Fields
     }
 }
 
+#[tactic(auto, unfolding(crate::specs::Frames::frame6_of))]
 pub fn read_frame_6(bytes: &[u8]) -> Frame6Fields
     ensures { result ≡ frame6_of bytes.now }
 {
@@ -186,6 +190,7 @@ pub fn read_frame_6(bytes: &[u8]) -> Frame6Fields
     }
 }
 
+#[tactic(auto, unfolding(crate::specs::Frames::frame7_of))]
 pub fn read_frame_7(bytes: &[u8]) -> Frame7Fields
     ensures { result ≡ frame7_of bytes.now }
 {
@@ -202,11 +207,11 @@ pub fn read_frame_7(bytes: &[u8]) -> Frame7Fields
 }
 
 // Reads the block of any bytes, also of those that are refused as a record; a byte past the end reads as 0, and a frame index that is none of 1 to 6 as 7.
+#[tactic(auto, unfolding(crate::specs::Block::block_of))]
 pub fn read_block(bytes: &[u8]) -> Block
     ensures { result ≡ block_of bytes.now }
 {
-    let frame = octets::u16_at(bytes, FRAME_INDEX_AT);
-    match frame {
+    match octets::u16_at(bytes, FRAME_INDEX_AT) {
         1 => Block::Frame1(read_frame_1(bytes)),
         2 => Block::Frame2(read_frame_2(bytes)),
         3 => Block::Frame3(read_frame_3(bytes)),
@@ -237,12 +242,9 @@ pub fn carried_count(block: Block) -> usize
     ensures { result ≡ carried_count block }
 {
     match block {
-        Block::Frame1(_) => 0,
-        Block::Frame2(_) => 0,
         Block::Frame3(_) => 2,
-        Block::Frame4(_) => 0,
         Block::Frame5(_) => 4,
-        Block::Frame6(_) => 0,
         Block::Frame7(_) => CARRIED_MOST,
+        Block::Frame1(_) | Block::Frame2(_) | Block::Frame4(_) | Block::Frame6(_) => 0,
     }
 }
