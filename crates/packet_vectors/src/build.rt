@@ -56,26 +56,23 @@ fn base_word(fill: u64, w: usize) -> u32
 }
 
 // Where a field stands: its word, its lowest bit there, and its highest number.
-#[derive(Clone, Copy)]
-struct Spot(usize, u32, u32);
-
-fn spot_of(field: u64, value: u64) -> Spot {
+fn spot_of(field: u64, value: u64) -> Option<(usize, u32, u32)> {
     match field {
-        tables::VERSION => Spot(0, 13, 7),
-        tables::SPARE => Spot(0, 12, 1),
-        tables::FLAG => Spot(0, 11, 1),
-        tables::STATUS => Spot(0, 8, 7),
-        tables::INSTRUMENT => Spot(0, 0, 255),
-        tables::SEGMENTATION => Spot(1, 14, 3),
-        tables::COUNT => Spot(1, 0, 16383),
-        tables::LENGTH => Spot(2, 0, 65535),
-        tables::TYPE => Spot(5, 0, 255),
-        tables::BIT => Spot(
+        tables::VERSION => Some((0, 13, 7)),
+        tables::SPARE => Some((0, 12, 1)),
+        tables::FLAG => Some((0, 11, 1)),
+        tables::STATUS => Some((0, 8, 7)),
+        tables::INSTRUMENT => Some((0, 0, 255)),
+        tables::SEGMENTATION => Some((1, 14, 3)),
+        tables::COUNT => Some((1, 0, 16383)),
+        tables::LENGTH => Some((2, 0, 65535)),
+        tables::TYPE => Some((5, 0, 255)),
+        tables::BIT => Some((
             (value / 2) as usize,
             (value % 8 + 8 - value % 2 * 8) as u32,
             1,
-        ),
-        _ => Spot(0, 0, 0),
+        )),
+        _ => None,
     }
 }
 
@@ -83,15 +80,13 @@ fn spot_of(field: u64, value: u64) -> Spot {
 fn changed(word: u32, w: usize, change: u64) -> u32 {
     let value = change % tables::FIELD;
     let field = change - value;
-    let spot = spot_of(field, value);
-    if w != spot.0 {
-        return word;
+    match spot_of(field, value) {
+        Some((at, low, _)) if at == w && field == tables::BIT => word ^ (1 << (low % 16)),
+        Some((at, low, most)) if at == w => {
+            word ^ ((((word >> (low % 16)) ^ value as u32) & most) << (low % 16))
+        }
+        _ => word,
     }
-    let low = spot.1 % 16;
-    if field == tables::BIT {
-        return word ^ (1 << low);
-    }
-    word ^ ((((word >> low) ^ value as u32) & spot.2) << low)
 }
 
 // Word w with the changes of a row.
@@ -122,10 +117,9 @@ fn total(row: u64, sum_word: usize) -> u32
     ensures { result ≤ 35388900 }
 {
     let mut sum = 0;
-    let mut w = 0;
-    while w < 540 {
-        sum = sum + word_of(row, sum_word, 0, w);
-        w = w + 1;
+    // A `for`: the proof of `(0..540).map(..).sum()` did not close, at the bound of what the closure gives.
+    for w in 0..540 {
+        sum += word_of(row, sum_word, 0, w);
     }
     sum
 }
@@ -157,9 +151,7 @@ fn byte_of(row: u64, sum_word: usize, sum: u32, b: usize) -> u8 {
 // Fills out with a row's packet, its sum at sum_word; past the packet the fill goes on.
 pub(crate) fn packet_of(row: u64, sum_word: usize, out: &mut [u8]) {
     let sum = sum_of(row, sum_word);
-    let mut b = 0;
-    while b < out.len() {
-        out[b] = byte_of(row, sum_word, sum, b);
-        b = b + 1;
+    for (b, byte) in out.iter_mut().enumerate() {
+        *byte = byte_of(row, sum_word, sum, b);
     }
 }

@@ -9,62 +9,68 @@ mod sums;
 mod tables;
 mod writes;
 
-use crate::tables::Table;
-use std::io::Stdout;
+use packet_layout::PUBLISHED_SUM_WORD;
+use std::io;
 
-fn run(stdout: Stdout, table: Table, i: usize) {
-    let row = tables::row(table, i);
-    match table {
-        Table::Reads => reads::read(stdout, i, row),
-        Table::Checks => reads::read_at_three_words(stdout, i, row),
-        Table::Words => {
-            reads::read_at(
-                stdout,
-                i,
-                2 * tables::DUE,
-                packet_layout::PUBLISHED_SUM_WORD,
-                row as usize,
-            );
-            writes::write_at(stdout, i, 2 * tables::DUE, row as usize);
-        }
-        Table::Writes => writes::write(stdout, i, row),
-        Table::Hstarts => reads::hstart(stdout, (row % 65536) as u16),
-        Table::Sums => sums::sum(stdout, i, row),
+// A heading, and a line for each row of a table.
+fn run<F: Fn(usize, u64) -> io::Result<()>>(
+    rt: &impl Print,
+    heading: &str,
+    rows: &[u64],
+    line: F,
+) -> io::Result<()>
+    requires { F.IsAlwaysCallable line }
+{
+    rt.println(heading)?;
+    for (i, row) in rows.iter().enumerate() {
+        line(i, *row)?;
     }
+    Ok(())
 }
 
-// A heading, and the first n rows of a table.
-fn run_all(stdout: Stdout, heading: &[u8], table: Table, n: usize) {
-    show::text(stdout, heading);
-    let mut i = 0;
-    while i < n {
-        run(stdout, table, i);
-        i = i + 1;
-    }
+// A word outside 53 to 539, told to the reader and to the writer.
+fn refused_word(rt: &impl Print, i: usize, word: u64) -> io::Result<()> {
+    let row = 2 * tables::DUE;
+    reads::read_at(rt, i, row, PUBLISHED_SUM_WORD, word as usize)?;
+    writes::write_at(rt, i, row, word as usize)
 }
 
-fn main(rt: HostRuntime) {
-    let stdout = rt.stdout();
-    reads::legend(stdout);
-    run_all(stdout, b"reads\n", Table::Reads, 80);
-    run_all(
-        stdout,
-        b"reads at words 53, 70 and 539\n",
-        Table::Checks,
-        132,
-    );
-    run_all(stdout, b"words outside 53 to 539\n", Table::Words, 10);
-    run_all(stdout, b"writes\n", Table::Writes, 41);
-    run_all(
-        stdout,
-        b"HSTART, first bin, starts of bins 0, 1, 47\n",
-        Table::Hstarts,
-        13,
-    );
-    run_all(
-        stdout,
-        b"sums of words: the whole, and its parts before and from a word on\n",
-        Table::Sums,
-        16,
-    );
+fn main(rt: HostRuntime) -> io::Result<()> {
+    reads::legend(&rt)?;
+    run(
+        &rt,
+        "reads",
+        &tables::READS,
+        |i, row| reads::read(&rt, i, row),
+    )?;
+    run(
+        &rt,
+        "reads at words 53, 70 and 539",
+        &tables::CHECKS,
+        |i, row| reads::read_at_three_words(&rt, i, row),
+    )?;
+    run(
+        &rt,
+        "words outside 53 to 539",
+        &tables::WORDS,
+        |i, word| refused_word(&rt, i, word),
+    )?;
+    run(
+        &rt,
+        "writes",
+        &tables::WRITES,
+        |i, row| writes::write(&rt, i, row),
+    )?;
+    run(
+        &rt,
+        "HSTART, first bin, starts of bins 0, 1, 47",
+        &tables::HSTARTS,
+        |_, h| reads::hstart(&rt, (h % 65536) as u16),
+    )?;
+    run(
+        &rt,
+        "sums of words: the whole, and its parts before and from a word on",
+        &tables::SUMS,
+        |i, row| sums::sum(&rt, i, row),
+    )
 }

@@ -1,5 +1,6 @@
 // The cases, one to a row. A row is a number, the sum of the parts named here; what it leaves out is as in the base packet, and the answer
-// due is 0. So 8 * DUE + LENGTH + 1072 is the base packet with length 1,072, its sum put right, and refusal 8 due.
+// due is 0. So 8 * DUE + LENGTH + 1072 is the base packet with length 1,072, its sum put right, and refusal 8 due. Rows stay numbers: a struct of
+// enums for each would be no plainer, since most of these 292 lines name two parts or three.
 
 pub const DUE: u64 = 10_000_000_000_000_000; // times the refusal that is due
 
@@ -67,7 +68,7 @@ pub const OUTPUT: u64 = 18 * FIELD; // how many bytes of output the writer is gi
 pub const IN_FULL: u64 = 19 * FIELD + 1; // no change: the arrays are shown in full, the 48 bins last
 
 // Packets to read, with the sum at word 70 where the row does not say otherwise.
-const READS: [u64; 80] = [
+pub const READS: [u64; 80] = [
     // Free fields and carried bytes.
     STATUS + 0,
     STATUS + 1,
@@ -155,7 +156,7 @@ const READS: [u64; 80] = [
 ];
 
 // Packets to read three times, with the sum at words 53, 70 and 539.
-const CHECKS: [u64; 132] = [
+pub const CHECKS: [u64; 132] = [
     // Fixed fields, each with every single bit turned.
     3 * DUE + VERSION + 1,
     3 * DUE + VERSION + 2,
@@ -294,7 +295,7 @@ const CHECKS: [u64; 132] = [
 ];
 
 // Sum words for which the reader and the writer give 2.
-const WORDS: [u64; 10] = [
+pub const WORDS: [u64; 10] = [
     0,
     1,
     52, // HSTART's
@@ -308,7 +309,7 @@ const WORDS: [u64; 10] = [
 ];
 
 // Packets to write, with the fields, arrays and carried bytes of the row's fill but for its changes.
-const WRITES: [u64; 41] = [
+pub const WRITES: [u64; 41] = [
     // Written.
     BASE,
     WORD + 53,
@@ -355,10 +356,10 @@ const WRITES: [u64; 41] = [
     17 * DUE + CARRIED + 975 + AND * (OUTPUT + 0), // 17 and 18
 ];
 
-const HSTARTS: [u64; 13] = [0, 1, 2, 3, 4, 6, 7, 8, 4660, 32767, 32768, 65534, 65535];
+pub const HSTARTS: [u64; 13] = [0, 1, 2, 3, 4, 6, 7, 8, 4660, 32767, 32768, 65534, 65535];
 
 // Bytes whose words are summed: a row's packet, its first bytes, or the packet and the fill past it; whole, and cut before a word, 0 if not named.
-const SUMS: [u64; 16] = [
+pub const SUMS: [u64; 16] = [
     SIZE + 0,
     SIZE + 1, // one byte, the upper half of a word
     SIZE + 2 + AND * (WORD + 1), // at the end
@@ -376,25 +377,3 @@ const SUMS: [u64; 16] = [
     RAW_ONES + SIZE + 1079 + AND * (WORD + 270),
     RAW_ONES + SIZE + 2160 + AND * (WORD + 540),
 ];
-
-#[derive(Clone, Copy)]
-pub enum Table {
-    Reads,
-    Checks,
-    Words,
-    Writes,
-    Hstarts,
-    Sums,
-}
-
-// Row i of a table, from 0; past the end, 0.
-pub(crate) fn row(table: Table, i: usize) -> u64 {
-    match table {
-        Table::Reads => if i < 80 { READS[i] } else { 0 },
-        Table::Checks => if i < 132 { CHECKS[i] } else { 0 },
-        Table::Words => if i < 10 { WORDS[i] } else { 0 },
-        Table::Writes => if i < 41 { WRITES[i] } else { 0 },
-        Table::Hstarts => if i < 13 { HSTARTS[i] } else { 0 },
-        Table::Sums => if i < 16 { SUMS[i] } else { 0 },
-    }
-}

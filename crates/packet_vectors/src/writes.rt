@@ -1,96 +1,77 @@
 // Packets that are written, one line each.
 use crate::{build, reads, show, tables};
-use packet::{PacketAnswer, PacketArrays, PacketFields, PacketRead};
+use packet::{Packet, PacketFields};
 use packet_layout::{CARRIED_AT, CARRIED_SIZE, PACKET_SIZE, PUBLISHED_SUM_WORD};
-use packet_writer::PacketWritten;
-use std::io::Stdout;
+use refusal::Refusal;
+use std::io;
 
-fn refused(stdout: Stdout, n: u8, row: u64) {
-    show::refused(stdout, n);
-    show::check(stdout, n, row / tables::DUE);
-}
-
-// The digest of what was written, and what the reader says of it.
-fn written(stdout: Stdout, out: &[u8], word: usize, row: u64) {
-    show::text(stdout, b": written, digest");
-    show::entry(stdout, show::digest(out));
-    show::text(stdout, b", read back");
-    reads::judge(stdout, out, word, row);
-}
-
+// What the writer says of a packet: its refusal, or the digest of what was written and what the reader says of it.
 fn judge(
-    stdout: Stdout,
+    rt: &impl Print,
     row: u64,
     word: usize,
-    f: PacketFields,
-    arrays: PacketArrays,
+    packet: &Packet,
     carried: &[u8],
     out: &mut [u8],
-) {
-    let answer = packet_writer::write_packet(f, arrays, carried, word, out);
-    match answer {
-        PacketWritten::Refused(n) => refused(stdout, n, row),
-        PacketWritten::Written => written(stdout, out, word, row),
+) -> io::Result<()> {
+    match packet_writer::write_packet(packet, carried, word, out) {
+        Ok(()) => {
+            print!(rt; ": written, digest {}, read back", show::digest(out))?;
+            reads::judge(rt, out, word, row)
+        }
+        Err(refusal) => {
+            show::refused(rt, refusal)?;
+            show::check(rt, u8::from(refusal), row / tables::DUE)
+        }
     }
 }
 
 // What the library reads of a packet that is filled as the row's and has no changes.
-fn source(row: u64) -> PacketRead {
+fn source(row: u64) -> Result<Packet, Refusal> {
     let mut bytes = [0; PACKET_SIZE];
     build::packet_of(row - row % tables::FILL, 60, &mut bytes);
     packet::read_packet(&bytes, 60)
 }
 
 // The fields of such a packet, with the count and the error status that the row gives.
-fn fields_of(row: u64, f: PacketFields) -> PacketFields {
-    let mut fields = f;
-    fields.count = (build::given(row, tables::COUNT, f.count as u64) % 65536) as u16;
-    fields.error_status = (build::given(row, tables::STATUS, f.error_status as u64) % 256) as u8;
-    fields
-}
-
-fn write_fields(stdout: Stdout, row: u64, word: usize, carried: &[u8], out: &mut [u8]) {
-    let read = source(row);
-    let answer = read.answer;
-    let arrays = read.arrays;
-    if let PacketAnswer::Accepted(f) = answer {
-        judge(stdout, row, word, fields_of(row, f), arrays, carried, out);
+fn fields_of(row: u64, fields: PacketFields) -> PacketFields {
+    PacketFields {
+        count: (build::given(row, tables::COUNT, fields.count as u64) % 65536) as u16,
+        error_status: (build::given(row, tables::STATUS, fields.error_status as u64) % 256) as u8,
+        ..fields
     }
 }
 
 // The carried bytes are as they are filled, so that they hold something else than the sum at its word.
-fn write_carried(stdout: Stdout, row: u64, word: usize, out: &mut [u8]) {
+fn write_into(rt: &impl Print, row: u64, word: usize, out: &mut [u8]) -> io::Result<()> {
     let mut filled = [0; 2160];
     build::packet_of(row - row % tables::FILL, 0, &mut filled);
     let end = CARRIED_AT + build::given(row, tables::CARRIED, CARRIED_SIZE as u64) as usize;
-    if end <= 2160 {
-        write_fields(stdout, row, word, &filled[CARRIED_AT..end], out);
+    if let (Some(carried), Ok(Packet { fields, arrays })) = (
+        filled.get(CARRIED_AT..end),
+        source(row),
+    ) {
+        let fields = fields_of(row, fields);
+        judge(rt, row, word, &Packet { fields, arrays }, carried, out)?;
     }
-}
-
-fn show_output(stdout: Stdout, room: &[u8; 2160]) {
-    if show::same(room, &[165; 2160]) {
-        show::text(stdout, b", output the same");
-    }
-    show::text(stdout, b"\n");
+    Ok(())
 }
 
 // Row i with its sum at a word, into an output whose bytes are all 165.
-pub(crate) fn write_at(stdout: Stdout, i: usize, row: u64, word: usize) {
+pub(crate) fn write_at(rt: &impl Print, i: usize, row: u64, word: usize) -> io::Result<()> {
     let mut room = [165; 2160];
     let length = build::given(row, tables::OUTPUT, PACKET_SIZE as u64) as usize;
-    show::head(stdout, b"write", i, word);
-    if length <= 2160 {
-        write_carried(stdout, row, word, &mut room[0..length]);
+    show::head(rt, "write", i, word)?;
+    if let Some(out) = room.get_mut(..length) {
+        write_into(rt, row, word, out)?;
     }
-    show_output(stdout, &room);
+    if room == [165; 2160] {
+        rt.print(", output the same")?;
+    }
+    println!(rt)
 }
 
-pub(crate) fn write(stdout: Stdout, i: usize, row: u64) {
-    write_at(
-        stdout,
-        i,
-        row,
-        build::given(row, tables::WORD, PUBLISHED_SUM_WORD as u64) as usize,
-    );
+pub(crate) fn write(rt: &impl Print, i: usize, row: u64) -> io::Result<()> {
+    let word = build::given(row, tables::WORD, PUBLISHED_SUM_WORD as u64);
+    write_at(rt, i, row, word as usize)
 }
