@@ -89,14 +89,10 @@ table_front zero n f h = refl
 table_front (suc m) zero f h = absurd (not-suc-le-zero h)
 table_front {A} (suc m) (suc n) f h = ap (λ (l : List A). f 0 ∷ l) (table_front m n (λ k. f (suc k)) (le_of_suc-le-suc h))
 
--- the bytes from an index on: how many, and each
+-- the bytes from an index on: how many
 pub octets_count : (s : List ℕ) (i n : ℕ) → length (octets_at s i n) ≡ n
 unfolding octets_at
 octets_count s i n = table_length n (λ k. get_or s (i + k) 0)
-
-pub octets_at_lem : (s : List ℕ) (i n k : ℕ) → k < n → get_or (octets_at s i n) k 0 ≡ get_or s (i + k) 0
-unfolding octets_at
-octets_at_lem s i n k h = table_at n (λ k. get_or s (i + k) 0) k 0 h
 
 zeros : (n : ℕ) → table {A = ℕ} n (λ k. 0) ≡ replicate n 0
 zeros zero = refl

@@ -1,12 +1,11 @@
 -- Laws of the numbers read from bytes, over the width.
-use Prim.Native.Nat.{ℕ, zero, suc, ◌+◌, ◌-◌, ◌*◌, ◌/◌, ◌%◌, ◌^◌, ◌<◌, ◌≤◌, min}
+use Prim.Native.Nat.{ℕ, zero, suc, ◌+◌, ◌-◌, ◌*◌, ◌/◌, ◌%◌, ◌^◌, ◌<◌}
 use mathlib.Core.Path.{◌≡◌, sym, ap, ap₂, ◌∙◌}
 use mathlib.Core.Logic.{⊎_elim}
 use mathlib.Core.List.{List}
 use native.Mathlib.Nat.{pow-zero, pow-suc}
-use native.Mathlib.Decide.{dec_le}
 use native.Mathlib.Omega.{arith}
-use lib.ListN.{length, get_or, get_or-eq_default}
+use lib.ListN.{get_or}
 use Rattle.numbers.specs.Bit.{bit}
 use Rattle.numbers.proofs.Bits.{lt_or_ge, bit_mod, bit_shr}
 use Rattle.octets.specs.Bytes.{nat_at, Octets}
@@ -19,18 +18,6 @@ nat_lt s i (suc n) o =
     let e : 256 ^ suc n ≡ 256 ^ n * 256 = pow-suc 256 n in
     let b : get_or s (i + n) 0 < 256 = o (i + n) in
     rw nat_suc (omega (arith, nat_lt s i n o))
-
--- an index past the end may be taken for the end itself
-pub past_end : (s : List ℕ) (i k from : ℕ) → from ≡ min i (length s) → get_or s (from + k) 0 ≡ get_or s (i + k) 0
-past_end s i k from e = go (dec_le i (length s))
-  where
-    go : Dec (i ≤ length s) → get_or s (from + k) 0 ≡ get_or s (i + k) 0
-    go (yes h) = ap (λ (j : ℕ). get_or s (j + k) 0) (omega arith)
-    go (no h) = get_or-eq_default s 0 (omega arith) ∙ sym (get_or-eq_default s 0 (omega arith))
-
--- and so may the first index of a number
-pub nat_end : (s : List ℕ) (i n from : ℕ) → from ≡ min i (length s) → nat_at s from n ≡ nat_at s i n
-nat_end s i n from e = nat_same s s from i n (λ k h. past_end s i k from e)
 
 -- the eight lowest bits of 256 x + b are those of the byte b, and the others those of x
 low_bit : (x b k : ℕ) → b < 256 → k < 8 → bit (x * 256 + b) k ≡ bit b k

@@ -1,7 +1,7 @@
 -- Runs of numbers of one width to bytes and back, over the width and the number of items.
 use Prim.Native.Nat.{ℕ, zero, suc, ◌+◌, ◌*◌, ◌^◌, ◌<◌, ◌≤◌}
 use mathlib.Core.Path.{◌≡◌, refl, sym, ap, ap₂, ◌∙◌}
-use mathlib.Core.List.{List, [], ◌∷◌, ◌++◌, append-nil, append_assoc}
+use mathlib.Core.List.{List, [], ◌∷◌, ◌++◌}
 use native.Mathlib.Nat.{mul-zero, mul-suc, mod-eq_of_lt}
 use native.Mathlib.Omega.{arith}
 use lib.ListN.{length, get_or, take, drop, length-append}
@@ -16,13 +16,6 @@ unfolding octets_of_all
 all_length w [] = sym (mul-zero w)
 all_length w (x ∷ xs) =
     length-append (octets_of w x) (octets_of_all w xs) ∙ omega (arith, octets_length w x, all_length w xs, mul-suc w (length xs))
-
--- numbers one after the other
-pub all_append : (w : ℕ) (xs ys : List ℕ) → octets_of_all w (xs ++ ys) ≡ octets_of_all w xs ++ octets_of_all w ys
-unfolding octets_of_all
-all_append w [] ys = refl
-all_append w (x ∷ xs) ys =
-    ap (λ (s : List ℕ). octets_of w x ++ s) (all_append w xs ys) ∙ sym (append_assoc (octets_of w x) (octets_of_all w xs) (octets_of_all w ys))
 
 -- a part in two
 pub part_add : (s : List ℕ) (i m n : ℕ) → part s i (m + n) ≡ part s i m ++ part s (i + m) n
@@ -63,11 +56,6 @@ read_write_all w (x ∷ xs) s i h b e =
     nats_suc s i w (length xs)
     ∙ ap₂ (λ (y : ℕ) (ys : List ℕ). y ∷ ys) (read_write w s i x head (b 0))
     (read_write_all w xs s (i + w) (omega arith) (λ k. b (suc k)) rest)
-
--- one number
-pub all_one : (w x : ℕ) → octets_of_all w (x ∷ []) ≡ octets_of w x
-unfolding octets_of_all
-all_one w x = append-nil (octets_of w x)
 
 -- bytes are their own bytes
 pub all_bytes : (xs : List ℕ) → Octets xs → octets_of_all 1 xs ≡ xs

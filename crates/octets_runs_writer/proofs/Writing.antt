@@ -2,7 +2,7 @@
 use Rattle.std.proofs.Common.{◌≡◌, ℕ, ◌+◌, ◌*◌, ◌<◌, ◌≤◌, min, List, [], ◌∷◌, ◌++◌, length, get_or, take, drop, sym, ap, ◌∙◌, arith, mul-zero, mul-suc, mul-le-mul_left, add-one, append-nil, append_assoc}
 use native.Mathlib.Decide.{dec_le}
 use lib.ListN.{length-append}
-use lib.Seq.{take-suc, take_all, length-take-le}
+use lib.Seq.{take-suc, length-take-le}
 use borrow.Rule.Slice.PartMut.{put_mid}
 use Rattle.octets.specs.Bytes.{put}
 use Rattle.octets.specs.Word.{WordLaws}
@@ -72,7 +72,3 @@ module _ {W : Type 0} {w : ℕ} {at : List ℕ → ℕ → W} {run_at : List ℕ
       more_past new from most e ef r =
           let l : length out ≡ length d = ap length inv.1 ∙ put_length d i (run_octets (take k xs)) in
           more new (e ∙ ap (λ (j : ℕ). put out j (octets x)) ef ∙ put_largest out (octets x) (i + w * k) most (omega arith))
-
-    -- all of them
-    pub all_stored : (out : List ℕ) (k : ℕ) → length xs ≤ k → Writing run_octets xs i d out k → out ≡ put d i (run_octets xs)
-    all_stored out k h inv = inv.1 ∙ ap (λ (l : List W). put d i (run_octets l)) (take_all k xs h)
