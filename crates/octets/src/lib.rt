@@ -2,7 +2,7 @@
 // any index: a byte past the end is read as 0, and one that would be stored past the end is left out.
 #![tactic(auto)]
 
-ghost use Rattle.std.specs.Prelude.{◌≡◌, ◌+◌, min, length, get_or, drop};
+ghost use Rattle.std.specs.Prelude.{◌≡◌, ◌+◌, length, get_or, drop};
 ghost use Rattle.octets.specs.Bytes.{nat_at, int_at, signed, put};
 ghost use Rattle.octets.specs.Table.{octets_at};
 
@@ -72,13 +72,6 @@ pub fn i32_at(bytes: &[u8], i: usize) -> i32
     ensures { result ≡ int_at bytes.now i 4 }
 {
     to_i32(u32_at(bytes, i))
-}
-
-// The smaller of two numbers.
-pub fn least(a: usize, b: usize) -> usize
-    ensures { result ≡ min a b }
-{
-    a.min(b)
 }
 
 // The bytes from index i on.
