@@ -13,15 +13,31 @@ use Rattle.pedr_block_runs.specs.declared.BlockRuns.{BlockRuns}
 use Rattle.pedr_arrays.specs.Arrays.{arrays_of, no_arrays}
 use Rattle.pedr_arrays.specs.Uninterpreted.{uninterpreted_of, no_uninterpreted}
 use Rattle.pedr_arrays.specs.declared.RecordArrays.{RecordArrays}
-use Rattle.pedr.specs.declared.RecordAnswer.{RecordAnswer}
-use Rattle.pedr.specs.declared.RecordAnswer.TheVariants.{Refused, Accepted}
+use Rattle.pedr.specs.declared.Record.{Record}
 
--- the number, or the fields and the block, that each case of the answer stands for
-abbrev pub record_said : RecordAnswer → Said (RecordFields × Block)
-record_said (Refused n) = refused n
-record_said (Accepted f b) = answered (f, b)
+-- what is said of a record, part by part: its fields and block, its arrays, the block's runs and carried bytes, the uninterpreted bytes. Beside a refusal stand
+-- zeros.
+abbrev pub fields_in : Said Record → Said (RecordFields × Block)
+fields_in (refused n) = refused n
+fields_in (answered r) = answered (r.fields, r.block)
 
--- what is due of the reader, and what stands beside it: the arrays, the block's runs and carried bytes, the uninterpreted bytes
+abbrev pub arrays_in : Said Record → RecordArrays
+arrays_in (refused n) = no_arrays
+arrays_in (answered r) = r.arrays
+
+abbrev pub runs_in : Said Record → BlockRuns
+runs_in (refused n) = no_runs
+runs_in (answered r) = r.runs
+
+abbrev pub carried_in : Said Record → List ℕ
+carried_in (refused n) = no_carried
+carried_in (answered r) = r.carried
+
+abbrev pub uninterpreted_in : Said Record → List ℕ
+uninterpreted_in (refused n) = no_uninterpreted
+uninterpreted_in (answered r) = r.uninterpreted
+
+-- what is due of each part
 abbrev pub read_due : List ℕ → Said (RecordFields × Block)
 read_due s = say (record_refusal s) (fields_of s, block_of s)
 
