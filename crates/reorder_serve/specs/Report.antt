@@ -1,48 +1,37 @@
 -- Document 01, "The rack": what a drain reports of its answers.
-use Rattle.std.specs.Prelude.{ℕ, ◌≡◌, cond, List, map, eqb, length, replicate, take}
+use Rattle.std.specs.Prelude.{ℕ, ◌≡◌, List, length, replicate, take}
 use Rattle.octets.specs.Refusal.{Said, refused, answered}
-use Rattle.reorder_rules.specs.Sizes.{positions}
+use Rattle.refusal.specs.Number.{said}
 use Rattle.reorder_rules.specs.declared.Turn.{Turn}
-use Rattle.reorder_rules.specs.declared.Turn.TheVariants.{Packet, Missing, Waiting}
+use Rattle.reorder_rules.specs.declared.Turn.TheVariants.{Waiting}
+use Rattle.reorder_rules.specs.Sizes.{positions}
 use Rattle.reorder_session.specs.declared.Session.{Session}
 use Rattle.reorder_session.specs.Calls.{Drains}
-use Rattle.reorder_turn.specs.declared.Description.{Description}
-use Rattle.reorder_turn.specs.Described.{no_description, described_all}
-use Rattle.reorder_serve.specs.declared.DrainAnswer.{DrainAnswer}
-use Rattle.reorder_serve.specs.declared.DrainAnswer.TheVariants.{Refused, Count}
+use Rattle.reorder_turn.specs.Described.{in_places}
 use Rattle.reorder_serve.specs.declared.Report.{Report}
 
--- the number, or the count, of each case
-abbrev pub drain_said : DrainAnswer → Said ℕ
-drain_said (Refused n) = refused n
-drain_said (Count n) = answered n
-
--- the answer that a description tells: kind 1 a packet, 2 a missing position
-abbrev pub described_by : Description → Turn
-described_by d = cond (eqb d.kind 1) (Packet d.position) (cond (eqb d.kind 2) (Missing d.position) Waiting)
-
--- what a report stands for: its number, or the answers of as many descriptions as it counts
-abbrev pub first_of : List Description → Said ℕ → Said (List Turn)
-first_of ds (refused n) = refused n
-first_of ds (answered n) = answered (map described_by (take n ds))
+-- what a report stands for: its number, or as many answers as it counts
+abbrev pub first_of : List Turn → Said ℕ → Said (List Turn)
+first_of ts (refused n) = refused n
+first_of ts (answered n) = answered (take n ts)
 
 abbrev pub report_said : Report → Said (List Turn)
-report_said r = first_of r.descriptions (drain_said r.answer)
+report_said r = first_of r.turns (said r.answer)
 
--- the count and the descriptions of what is said
+-- the count of what is said, and the 32 places
 abbrev pub counted : Said (List Turn) → Said ℕ
 counted (refused n) = refused n
 counted (answered ts) = answered (length ts)
 
-abbrev pub descriptions : Said (List Turn) → List Description
-descriptions (refused n) = replicate positions no_description
-descriptions (answered ts) = described_all ts
+abbrev pub places : Said (List Turn) → List Turn
+places (refused n) = replicate positions Waiting
+places (answered ts) = in_places ts
 
 -- the report tells x and nothing more: "The i-th answer from 0 is described … A closing Waiting is neither counted nor described, and descriptions
--- past the count are all zeros."
+-- past the count are all zeros." Waiting is what all zeros describe.
 pub record Reports (r : Report) (x : Said (List Turn)) : Type 0 where
-  pub count : drain_said r.answer ≡ counted x
-  pub described : r.descriptions ≡ descriptions x
+  pub count : said r.answer ≡ counted x
+  pub turns : r.turns ≡ places x
 
 -- what a drain that gives a report promises: it is a drain of what the report stands for
 abbrev pub DrainsReport : Session → List ℕ → List ℕ → ℕ → Report → Session → List ℕ → Type 0

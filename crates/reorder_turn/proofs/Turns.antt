@@ -1,20 +1,21 @@
 -- What a turn tells of what is held, and how turns are described.
-use Prim.Native.Nat.{ℕ, suc, ◌+◌, ◌-◌, ◌≤◌, ◌<◌}
+use Prim.Native.Nat.{ℕ, zero, suc, ◌+◌, ◌-◌, ◌≤◌, ◌<◌}
 use mathlib.Core.Path.{◌≡◌, refl, sym, ap, ◌∙◌}
 use mathlib.Core.Bool.{Bool, true, false, cond}
 use mathlib.Core.List.{List, [], ◌∷◌, ◌++◌, map, append_assoc}
 use native.Mathlib.Omega.{arith}
 use lib.ListN.{length, replicate, set, length-append}
+use Rattle.std.proofs.Math.Seq.{set-append_seam}
+use Rattle.std.proofs.lemmas.List.{map-append}
 use Rattle.window.specs.Window.{held_at, some_held}
 use Rattle.window.proofs.Held.{some_held_lem, held_none}
 use Rattle.reorder_rules.specs.Turn as Turn-rules
 use Rattle.reorder_rules.specs.declared.Turn.{Turn}
 use Rattle.reorder_rules.specs.declared.Turn.TheVariants.{Packet, Missing, Waiting}
-use Rattle.reorder_rules.proofs.Turns.{Moves}
 use Rattle.reorder_session.specs.declared.Session.{Session}
 use Rattle.reorder_session.specs.Calls.{turn}
 use Rattle.reorder_turn.specs.declared.Description.{Description}
-use Rattle.reorder_turn.specs.Described.{no_description, described, described_all}
+use Rattle.reorder_turn.specs.Described.{no_description, described, described_by, in_places, described_all}
 
 -- what a turn tells of what is held
 pub data Shows (s : Session) : Turn → Type 0 where
@@ -36,36 +37,27 @@ shows s = go (held_at s.window s.window.start) (some_held s.window (s.window.sta
 
 -- ---- descriptions
 
--- only Waiting is described by kind 0
-pub no_kind : (t : Turn) → (described t).kind ≡ 0 → t ≡ Waiting
-no_kind (Packet p) e = absurd (omega arith)
-no_kind (Missing p) e = absurd (omega arith)
-no_kind Waiting e = refl
+-- a description tells the turn that it describes
+pub read_back : (t : Turn) → described_by (described t) ≡ t
+read_back (Packet p) = refl
+read_back (Missing p) = refl
+read_back Waiting = refl
 
-pub some_kind : (t : Turn) → ((described t).kind ≡ 0 → ⊥) → Moves t
-some_kind (Packet p) n = tt
-some_kind (Missing p) n = tt
-some_kind Waiting n = absurd (n refl)
-
-set_last : {A : Type 0} (xs ys : List A) (y v : A) → set (xs ++ (y ∷ ys)) (length xs) v ≡ xs ++ (v ∷ ys)
-set_last [] ys y v = refl
-set_last (x ∷ xs) ys y v = ap (λ (l : List _). x ∷ l) (set_last xs ys y v)
-
-length-map : (ts : List Turn) → length (map described ts) ≡ length ts
-length-map [] = refl
-length-map (t ∷ ts) = ap suc (length-map ts)
-
-map_last : (ts : List Turn) (t : Turn) → map described (ts ++ (t ∷ [])) ≡ map described ts ++ (described t ∷ [])
-map_last [] t = refl
-map_last (u ∷ ts) t = ap (λ (l : List Description). described u ∷ l) (map_last ts t)
-
-pub described_last : (ts : List Turn) (t : Turn) → length ts < 32 → set (described_all ts) (length ts) (described t) ≡ described_all (ts ++ (t ∷ []))
-unfolding described_all
-described_last ts t h =
+-- one turn more takes the next place
+pub in_places_last : (ts : List Turn) (t : Turn) → length ts < 32 → set (in_places ts) (length ts) t ≡ in_places (ts ++ (t ∷ []))
+unfolding in_places
+in_places_last ts t h =
     let n : ℕ = 32 - length (ts ++ (t ∷ [])) in
     let e : 32 - length ts ≡ suc n = omega (arith, length-append ts (t ∷ [])) in
-    ap (λ (k : ℕ). set (map described ts ++ replicate k no_description) (length ts) (described t)) e
-    ∙ ap (λ (k : ℕ). set (map described ts ++ (no_description ∷ replicate n no_description)) k (described t)) (sym (length-map ts))
-    ∙ set_last (map described ts) (replicate n no_description) no_description (described t)
-    ∙ sym (append_assoc (map described ts) (described t ∷ []) (replicate n no_description))
-    ∙ ap (λ (l : List Description). l ++ replicate n no_description) (sym (map_last ts t))
+    ap (λ (k : ℕ). set (ts ++ replicate k Waiting) (length ts) t) e
+    ∙ set-append_seam ts Waiting (replicate n Waiting) t
+    ∙ sym (append_assoc ts (t ∷ []) (replicate n Waiting))
+
+-- the descriptions of all places
+described_waiting : (n : ℕ) → map described (replicate n Waiting) ≡ replicate n no_description
+described_waiting zero = refl
+described_waiting (suc n) = ap (λ (ds : List Description). no_description ∷ ds) (described_waiting n)
+
+pub described_places : (ts : List Turn) → map described (in_places ts) ≡ described_all ts
+unfolding in_places described_all
+described_places ts = map-append described ts (replicate (32 - length ts) Waiting) ∙ ap (λ (ds : List Description). map described ts ++ ds) (described_waiting (32 - length ts))

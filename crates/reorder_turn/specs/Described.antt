@@ -1,5 +1,5 @@
 -- Document 01, "The rack": the descriptions of a drain's answers.
-use Rattle.std.specs.Prelude.{◌-◌, List, ◌++◌, map, length, replicate}
+use Rattle.std.specs.Prelude.{◌-◌, cond, eqb, List, ◌++◌, map, length, replicate}
 use Rattle.octets.specs.Refusal.{Said, refused, answered}
 use Rattle.reorder_rules.specs.Sizes.{positions}
 use Rattle.reorder_rules.specs.declared.Turn.{Turn}
@@ -14,6 +14,14 @@ abbrev pub described : Turn → Description
 described (Packet p) = record { kind = 1; position = p }
 described (Missing p) = record { kind = 2; position = p }
 described Waiting = no_description
+
+-- the answer that a description tells
+abbrev pub described_by : Description → Turn
+described_by d = cond (eqb d.kind 1) (Packet d.position) (cond (eqb d.kind 2) (Missing d.position) Waiting)
+
+-- a drain's answers in its report's places, the i-th in place i; Waiting past their count
+unfoldable pub in_places : List Turn → List Turn
+in_places ts = ts ++ replicate (positions - length ts) Waiting
 
 -- the i-th answer from 0 is described, and descriptions past the count are all zeros
 unfoldable pub described_all : List Turn → List Description

@@ -5,7 +5,6 @@ use mathlib.Core.List.{List}
 use native.Mathlib.Omega.{arith}
 use lib.ListN.{take, drop}
 use Rattle.octets.specs.Bytes.{part, put}
-use Rattle.octets.specs.Refusal.{answered}
 use Rattle.window.specs.Window.{freed, skipped}
 use Rattle.window.proofs.Held.{has_32_bits}
 use Rattle.reorder_rules.specs.declared.Turn.{Turn}
@@ -16,9 +15,14 @@ use Rattle.reorder_session.specs.Calls.{turn, turned, shown}
 use Rattle.reorder_serve.proofs.step.Goals as goal
 
 -- what serving once comes to, by its turn
+record Did (s : Session) (i : ℕ) (store out : List ℕ) (t : Turn) (s' : Session) (out' : List ℕ) : Type 0 where
+  answer : t ≡ turn s
+  session : s' ≡ turned s (turn s)
+  output : out' ≡ shown s i store out (turn s)
+
 did : (s : Session) (i : ℕ) (store out : List ℕ) (t : Turn) (s' : Session) (out' : List ℕ) → turn s ≡ t → s' ≡ turned s t → out' ≡ shown s i store out t
-    → (answered t ≡ answered (turn s)) × ((s' ≡ turned s (turn s)) × (out' ≡ shown s i store out (turn s)))
-did s i store out t s' out' e a b = (ap answered (sym e), (a ∙ ap (turned s) (sym e), b ∙ ap (shown s i store out) (sym e)))
+    → Did s i store out t s' out'
+did s i store out t s' out' e a b = record { answer = sym e; session = a ∙ ap (turned s) (sym e); output = b ∙ ap (shown s i store out) (sym e) }
 
 part_is : (i n : ℕ) (s : List ℕ) → take ((i + n) - i) (drop i s) ≡ part s i n
 part_is i n s = let e : (i + n) - i ≡ n = omega arith in ap (λ (k : ℕ). take k (drop i s)) e
@@ -27,23 +31,24 @@ pub returns-then-is_start_held : goal.returns-then-is_start_held
 returns-then-is_start_held c =
     let a = c.args in
     let s = a.session in
-    let from = slot_start s.window.start in
-    did s a.i a.store.now a.out.now _ _ _
-    (turn_packet single s (sym c.is_start_held.ensures ∙ c.if-is_start_held.true))
+    let d = did s a.i a.store.now a.out.now _ _ _
+    (turn_packet single s (sym c.if-is_start_held.ensures))
     (c.with_window.ensures ∙ ap (with_window s) (c.free.ensures ∙ has_32_bits (freed s.window) (omega (arith, c.requires.start_bound))))
-    (c.write_into.ensures ∙ ap (put a.out.now (1080 * a.i)) (part_is from 1080 a.store.now))
+    (c.write_into.ensures ∙ ap (put a.out.now (1080 * a.i)) (part_is (slot_start s.window.start) 1080 a.store.now)) in
+    record { answer = d.answer; session = d.session; output = d.output }
 
 pub returns-then-is_held_ahead : goal.returns-then-is_held_ahead
 returns-then-is_held_ahead c =
     let a = c.args in
     let s = a.session in
-    did s a.i a.store.now a.out.now _ _ _
-    (turn_missing single s (sym c.is_start_held.ensures ∙ c.if-is_start_held.false) (sym c.is_held_ahead.ensures ∙ c.if-is_held_ahead.true))
-    (c.with_window-then-is_held_ahead.ensures ∙ ap (with_window s) (c.skip.ensures ∙ has_32_bits (skipped s.window) (omega (arith, c.requires.start_bound)))) refl
+    let d = did s a.i a.store.now a.out.now _ _ _
+    (turn_missing single s (sym c.if-is_start_held.ensures) (sym c.if-is_held_ahead.ensures))
+    (c.with_window-then-is_held_ahead.ensures ∙ ap (with_window s) (c.skip.ensures ∙ has_32_bits (skipped s.window) (omega (arith, c.requires.start_bound)))) refl in
+    record { answer = d.answer; session = d.session; output = d.output }
 
 pub returns : goal.returns
 returns c =
     let a = c.args in
-    did a.session a.i a.store.now a.out.now _ _ _
-    (turn_waiting single a.session (sym c.is_start_held.ensures ∙ c.if-is_start_held.false) (sym c.is_held_ahead.ensures ∙ c.if-is_held_ahead.false))
-    refl refl
+    let d = did a.session a.i a.store.now a.out.now _ _ _
+    (turn_waiting single a.session (sym c.if-is_start_held.ensures) (sym c.if-is_held_ahead.ensures)) refl refl in
+    record { answer = d.answer; session = d.session; output = d.output }
