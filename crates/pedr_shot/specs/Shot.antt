@@ -1,6 +1,6 @@
 -- Document 01: the shot entry gives the record's refusals 11 to 15, then 16, else one shot's values.
 use Rattle.std.specs.Prelude.{ℕ, ◌-◌, List}
-use Rattle.octets.specs.Refusal.{◌then◌, Said, refused, answered, say}
+use Rattle.octets.specs.Refusal.{◌then◌, Said, say}
 use Rattle.layout.specs.Column.{value, item}
 use Rattle.pedr_layout.specs.Layout as columns
 use Rattle.pedr_flags.specs.Quality.{good_shot}
@@ -10,8 +10,6 @@ use Rattle.pedr_flags.specs.Encoder.{encoder_of}
 use Rattle.pedr_flags.specs.Shot.{flags_refusal}
 use Rattle.pedr_check.specs.Refusal.{record_refusal}
 use Rattle.pedr_shot.specs.declared.ShotFields.{ShotFields}
-use Rattle.pedr_shot.specs.declared.ShotAnswer.{ShotAnswer}
-use Rattle.pedr_shot.specs.declared.ShotAnswer.TheVariants.{Refused, Accepted}
 
 -- shot k (1 to 20) is item k - 1 of each column of 20, counted from 0
 unfoldable pub shot_of : List ℕ → ℕ → ShotFields
@@ -33,11 +31,6 @@ shot_of s k =
 -- 11 to 15, then 16: shot not 1 to 20
 unfoldable pub shot_refusal : List ℕ → ℕ → ℕ
 shot_refusal s k = record_refusal s then flags_refusal k
-
--- the number, or the shot, that each case of the answer stands for
-abbrev pub shot_said : ShotAnswer → Said ShotFields
-shot_said (Refused n) = refused n
-shot_said (Accepted f) = answered f
 
 -- what is due of the shot entry
 abbrev pub shot_due : List ℕ → ℕ → Said ShotFields

@@ -2,16 +2,17 @@
 #![tactic(auto)]
 
 ghost use Rattle.std.specs.Prelude.{◌≡◌, ◌≤◌};
-ghost use Rattle.octets.specs.Refusal.{refusal_in};
+ghost use Rattle.refusal.specs.Number.{said};
 ghost use Rattle.pedr_layout.specs.Layout.{shot_count};
 ghost use Rattle.pedr_flags.specs.Shot.{flags_of};
-ghost use Rattle.pedr_shot.specs.Shot.{shot_of, shot_said, shot_due};
+ghost use Rattle.pedr_shot.specs.Shot.{shot_of, shot_due};
 
-use pedr_flags::{Class, Encoder, ShotFailures, ShotFlags, ShotFlagsAnswer};
+use pedr_flags::{Class, Encoder, ShotFailures, ShotFlags};
 use pedr_layout::{
     CLASS_AT, ENCODER_AT, ENERGY_AT, LASER_POWER_AT, OPTICAL_WIDTH_AT, PULSE_WIDTH_AT, RADIUS_AT,
     REFLECTIVITY_AT, TRIGGER_CHANNEL_AT,
 };
+use refusal::Refusal;
 
 // A shot's value of each column of 20, whether it is good, and the tests that it failed.
 #[derive(Clone, Copy)]
@@ -29,20 +30,13 @@ pub struct ShotFields {
     pub failures: ShotFailures,
 }
 
-// A refusal with its number, or the shot's fields.
-#[derive(Clone, Copy)]
-pub enum ShotAnswer {
-    Refused(u8),
-    Accepted(ShotFields),
-}
-
 // The fields of a shot, with its flags as they were read.
+#[tactic(auto, unfolding(crate::specs::Shot::shot_of, pedr_flags::specs::Shot::flags_of))]
 fn read_fields(bytes: &[u8], shot: usize, flags: ShotFlags) -> ShotFields
     requires { (1 ≤ shot) × (shot ≤ shot_count) × (flags ≡ flags_of bytes.now shot) }
     ensures { result ≡ shot_of bytes.now shot }
 {
     let k = shot - 1;
-    let failures = flags.failures;
     ShotFields {
         radius: octets::u32_at(bytes, RADIUS_AT + 4 * k),
         energy: octets::u16_at(bytes, ENERGY_AT + 2 * k),
@@ -51,33 +45,18 @@ fn read_fields(bytes: &[u8], shot: usize, flags: ShotFlags) -> ShotFields
         pulse_width: octets::u16_at(bytes, PULSE_WIDTH_AT + 2 * k),
         optical_width: octets::u16_at(bytes, OPTICAL_WIDTH_AT + 2 * k),
         laser_power: octets::u16_at(bytes, LASER_POWER_AT + 2 * k),
-        class: pedr_flags::class_of(octets::u16_at(bytes, CLASS_AT + 2 * k)),
-        encoder: pedr_flags::encoder_of(octets::u8_at(bytes, ENCODER_AT + k)),
+        class: Class::from(octets::u16_at(bytes, CLASS_AT + 2 * k)),
+        encoder: Encoder::from(octets::u8_at(bytes, ENCODER_AT + k)),
         good: flags.good,
-        failures,
+        failures: flags.failures,
     }
 }
 
 // Reads one shot of a record. Any bytes, any shot.
-pub fn read_shot(bytes: &[u8], shot: usize) -> ShotAnswer
-    ensures { shot_said result ≡ shot_due bytes.now shot }
+pub fn read_shot(bytes: &[u8], shot: usize) -> Result<ShotFields, Refusal>
+    ensures { said result ≡ shot_due bytes.now shot }
 {
-    let n = pedr_check::record_refusal(bytes);
-    if n != 0 {
-        return ShotAnswer::Refused(n);
-    }
-    match pedr_flags::read_shot_flags(bytes, shot) {
-        ShotFlagsAnswer::Refused(n) => ShotAnswer::Refused(n),
-        ShotFlagsAnswer::Accepted(flags) => ShotAnswer::Accepted(read_fields(bytes, shot, flags)),
-    }
-}
-
-// The refusal's number, or 0 for a shot that was read.
-pub fn refusal_number(answer: ShotAnswer) -> u8
-    ensures { result ≡ refusal_in (shot_said answer) }
-{
-    match answer {
-        ShotAnswer::Refused(n) => n,
-        ShotAnswer::Accepted(_) => 0,
-    }
+    pedr_check::check_record(bytes)?;
+    let flags = pedr_flags::read_shot_flags(bytes, shot)?;
+    Ok(read_fields(bytes, shot, flags))
 }

@@ -1,9 +1,11 @@
 -- What is said, by the record's number, and where that is 0 by the answer of the flags.
 use Prim.Native.Nat.{ℕ, ◌≤◌}
-use mathlib.Core.Path.{◌≡◌, sym, ◌∙◌}
+use mathlib.Core.Path.{◌≡◌, sym}
 use mathlib.Core.List.{List}
-use Rattle.octets.specs.Refusal.{within, answered}
-use Rattle.octets.proofs.Ladder.{then_fail, then_pass, passed, within_true, say_refused, say_answered, answer_said, refusal_said}
+use Rattle.octets.specs.Refusal.{within, refused, answered}
+use Rattle.octets.proofs.Ladder.{then_fail, then_pass, passed, within_true, say_answered, answer_said, refusal_said}
+use Rattle.refusal.specs.Number.{number}
+use Rattle.refusal.proofs.Said.{say_handed_on, number_not_0}
 use Rattle.pedr_flags.specs.declared.ShotFlags.{ShotFlags}
 use Rattle.pedr_flags.specs.Shot.{flags_of, flags_refusal, flags_due}
 use Rattle.pedr_check.specs.Refusal.{record_refusal}
@@ -17,27 +19,35 @@ there_is s k f e =
     let w = within_true 1 20 k (passed (within 1 20 k) 15 0 q.0).0 in
     (w.0, w.1, q.1)
 
-pub returns-then-n-ne0 : goal.returns-then-n-ne0
+pub returns-in_err-check_record : goal.returns-in_err-check_record
 unfolding shot_refusal
-returns-then-n-ne0 c =
-    let a = c.args in
-    say_refused _ _ (shot_of a.bytes.now a.shot) (then_fail _ _ _ c.record_refusal-n.ensures c.if-n-ne0.true) c.if-n-ne0.true
+returns-in_err-check_record c =
+    let s = c.args.bytes.now in
+    let k = c.args.shot in
+    let refusal = c.in_err-check_record.field-0.0 in
+    let e : number refusal ≡ record_refusal s = c.in_err-check_record.ensures in
+    say_handed_on c.from_residual.result refusal _ (shot_of s k) c.from_residual.ensures (then_fail _ _ _ e (number_not_0 refusal))
+
+pub returns-in_err-flags : goal.returns-in_err-flags
+unfolding shot_refusal
+returns-in_err-flags c =
+    let s = c.args.bytes.now in
+    let k = c.args.shot in
+    let z : record_refusal s ≡ 0 = sym c.in_ok-check_record.ensures in
+    let refusal = c.in_err-flags.field-0.0 in
+    let e : refused (number refusal) ≡ flags_due s k = c.in_err-flags.ensures in
+    let q = refusal_said _ _ (flags_of s k) e in
+    say_handed_on c.from_residual-in_err-flags.result refusal _ (shot_of s k) c.from_residual-in_err-flags.ensures (then_pass _ _ _ z q.0)
 
 pub read_fields-requires : goal.read_fields-requires
-read_fields-requires c = there_is _ _ _ c.in-Accepted.ensures
+read_fields-requires c = there_is _ _ _ c.in_ok-flags.ensures
 
-pub returns-in-Refused : goal.returns-in-Refused
+pub returns : goal.returns
 unfolding shot_refusal
-returns-in-Refused c =
-    let a = c.args in
-    let z : record_refusal a.bytes.now ≡ 0 = sym c.record_refusal-n.ensures ∙ c.if-n-ne0.false in
-    let q = refusal_said _ _ (flags_of a.bytes.now a.shot) c.in-Refused.ensures in
-    say_refused _ _ (shot_of a.bytes.now a.shot) (then_pass _ _ _ z q.0) (λ e. q.1 (sym q.0 ∙ e))
-
-pub returns-in-Accepted : goal.returns-in-Accepted
-unfolding shot_refusal
-returns-in-Accepted c =
-    let a = c.args in
-    let z : record_refusal a.bytes.now ≡ 0 = sym c.record_refusal-n.ensures ∙ c.if-n-ne0.false in
-    let q = answer_said _ (flags_of a.bytes.now a.shot) _ c.in-Accepted.ensures in
-    say_answered _ (shot_of a.bytes.now a.shot) _ (sym (then_pass _ _ 0 z (sym q.0))) c.read_fields.ensures
+returns c =
+    let s = c.args.bytes.now in
+    let k = c.args.shot in
+    let z : record_refusal s ≡ 0 = sym c.in_ok-check_record.ensures in
+    let e : answered c.in_ok-flags.flags ≡ flags_due s k = c.in_ok-flags.ensures in
+    let q = answer_said _ (flags_of s k) _ e in
+    say_answered _ (shot_of s k) _ (sym (then_pass _ _ 0 z (sym q.0))) c.read_fields.ensures
