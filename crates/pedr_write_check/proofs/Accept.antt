@@ -8,13 +8,13 @@ use Rattle.octets.proofs.Ladder.{passed, pass, pass_le, then_zero, then_pass}
 use Rattle.pedr_arrays.specs.declared.RecordArrays.{RecordArrays}
 use Rattle.pedr_fields.specs.declared.RecordFields.{RecordFields}
 use Rattle.pedr_check.specs.Refusal.{values_refusal}
-use Rattle.pedr_codes.specs.Codes.{is_proper_shot, has_two_bits}
+use Rattle.pedr_codes.specs.Codes.{is_proper, has_two_bits}
 use Rattle.pedr_write_check.specs.Refusal.{given_refusal}
 
 -- the conditions that they meet
 pub record Proper (f : RecordFields) (a : RecordArrays) : Type 0 where
   pub values : values_refusal f.time.micros f.position.latitude f.receiver.frame_index ≡ 0
-  pub classes : each is_proper_shot a.shots.class ≡ true
+  pub classes : each is_proper a.shots.class ≡ true
   pub good : f.quality.good ≤ 1048575
   pub quality_carried : f.quality.carried ≤ 15
   pub descriptor_carried : f.descriptor.carried ≤ 16777215

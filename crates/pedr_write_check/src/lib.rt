@@ -2,41 +2,33 @@
 #![tactic(auto)]
 
 ghost use Rattle.std.specs.Prelude.{◌≡◌};
+ghost use Rattle.octets.specs.Refusal.{refusal_in};
+ghost use Rattle.refusal.specs.Number.{said};
 ghost use Rattle.pedr_write_check.specs.Refusal.{given_refusal};
 
 use pedr_arrays::RecordArrays;
 use pedr_fields::RecordFields;
+use pedr_layout::SHOTS;
+use refusal::Refusal;
 
-// Refusals 13 to 15, 40 and 49, or 0.
-pub fn given_refusal(fields: RecordFields, arrays: RecordArrays) -> u8
-    ensures { result ≡ given_refusal fields arrays }
+// Refusals 13 to 15, 40 and 49.
+pub fn check_given(fields: &RecordFields, arrays: &RecordArrays) -> Result<(), Refusal>
+    ensures { refusal_in (said result) ≡ given_refusal fields.now arrays.now }
 {
-    let time = fields.time;
-    let position = fields.position;
-    let receiver = fields.receiver;
-    let n = pedr_check::values_refusal(time.micros, position.latitude, receiver.frame_index);
-    if n != 0 {
-        return n;
+    pedr_check::check_values(
+        fields.time.micros,
+        fields.position.latitude,
+        fields.receiver.frame_index,
+    )?;
+    if !pedr_codes::are_proper(&arrays.shots.class) {
+        return Err(Refusal::Class);
     }
-    let shots = arrays.shots;
-    let classes = shots.class;
-    if !pedr_codes::are_proper(classes) {
-        return 40;
+    if fields.quality.good >= 1 << SHOTS
+        || fields.quality.carried >= 1 << 4
+        || fields.descriptor.carried >= 1 << 24
+        || !pedr_codes::have_two_bits(&arrays.shots.encoder)
+    {
+        return Err(Refusal::RecordField);
     }
-    let quality = fields.quality;
-    if 1048575 < quality.good {
-        return 49;
-    }
-    if 15 < quality.carried {
-        return 49;
-    }
-    let descriptor = fields.descriptor;
-    if 16777215 < descriptor.carried {
-        return 49;
-    }
-    let encoders = shots.encoder;
-    if !pedr_codes::have_two_bits(encoders) {
-        return 49;
-    }
-    0
+    Ok(())
 }

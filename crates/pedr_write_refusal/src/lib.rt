@@ -2,40 +2,45 @@
 #![tactic(auto)]
 
 ghost use Rattle.std.specs.Prelude.{◌≡◌};
+ghost use Rattle.octets.specs.Refusal.{refusal_in};
+ghost use Rattle.refusal.specs.Number.{said};
 ghost use Rattle.pedr_write_refusal.specs.Refusal.{write_refusal};
 
 use pedr_arrays::RecordArrays;
 use pedr_block::Block;
+use pedr_block_runs::BlockRuns;
 use pedr_fields::RecordFields;
 use pedr_layout::{RECORD_SIZE, UNINTERPRETED};
+use refusal::Refusal;
 
-// Refusals 13 to 15, 40, 49, 41 and 42, or 0.
-pub fn write_refusal(
-    fields: RecordFields,
-    block: Block,
-    arrays: RecordArrays,
-    carried: &[u8],
-    uninterpreted: &[u8],
-    out: &[u8],
-) -> u8
-    ensures { result ≡ write_refusal fields block arrays carried.now uninterpreted.now out.now }
+// What is given of a record to be written: its fields and arrays, the engineering block with its runs, the block's carried bytes, and the uninterpreted
+// bytes (record bytes 537 to 620, and then 641 to 776).
+#[derive(Clone, Copy)]
+pub struct GivenRecord<'a> {
+    pub fields: &'a RecordFields,
+    pub block: &'a Block,
+    pub arrays: &'a RecordArrays,
+    pub runs: &'a BlockRuns,
+    pub carried: &'a [u8],
+    pub uninterpreted: &'a [u8],
+}
+
+// Refusals 13 to 15, 40, 49, 41 and 42. The runs are not looked at.
+pub fn check_write(given: &GivenRecord, out: &[u8]) -> Result<(), Refusal>
+    ensures { let g = given.now in refusal_in (said result) ≡ write_refusal g.fields.now g.block.now g.arrays.now g.carried.now g.uninterpreted.now out.now }
 {
-    let n = pedr_write_check::given_refusal(fields, arrays);
-    if n != 0 {
-        return n;
+    pedr_write_check::check_given(given.fields, given.arrays)?;
+    if given.carried.len() != pedr_block::carried_count(*given.block) {
+        return Err(Refusal::RecordField);
     }
-    if carried.len() != pedr_block::carried_count(block) {
-        return 49;
-    }
-    if uninterpreted.len() != UNINTERPRETED {
-        return 49;
+    if given.uninterpreted.len() != UNINTERPRETED {
+        return Err(Refusal::RecordField);
     }
     if out.len() != RECORD_SIZE {
-        return 41;
+        return Err(Refusal::RecordOutput);
     }
-    let receiver = fields.receiver;
-    if pedr_block::frame_number(block) != receiver.frame_index {
-        return 42;
+    if pedr_block::frame_number(*given.block) != given.fields.receiver.frame_index {
+        return Err(Refusal::FrameDiffers);
     }
-    0
+    Ok(())
 }
