@@ -1,19 +1,17 @@
-// The reorder buffer's calls over one session record, lent to each call and updated there (document 01, "The rack").
+// The reorder buffer's calls over one session record, lent to each call and updated there (document 01, "The rack"). Not by
+// `lent_record::over_lent`, which asks for an impl of a trait for each call: these are longer than the calls.
 #![tactic(auto)]
 
-ghost use Rattle.reorder_admission.specs.Answer.{offer_said};
+ghost use Rattle.refusal.specs.Number.{said};
 ghost use Rattle.reorder_session.specs.Calls.{Offers, Serves, Passes};
 ghost use Rattle.reorder_offer.specs.Opening.{Opens};
-ghost use Rattle.reorder_turn.specs.Answer.{serve_said};
 ghost use Rattle.reorder_serve.specs.Report.{DrainsReport};
-ghost use Rattle.reorder_pass.specs.Answer.{pass_said};
 ghost use Rattle.reorder_lent.specs.Layout.{SessionLayout};
 
-use reorder_admission::OfferAnswer;
-use reorder_pass::PassAnswer;
+use refusal::Refusal;
+use reorder_rules::Turn;
 use reorder_serve::Report;
 use reorder_session::Session;
-use reorder_turn::ServeAnswer;
 
 // Opens the session with this packet at position 0. A refused opening leaves the session as it came.
 pub fn open(
@@ -22,9 +20,9 @@ pub fn open(
     packet: &[u8],
     threshold: u32,
     sum_word: u32,
-) -> OfferAnswer
+) -> Result<u32, Refusal>
     ensures { Opens session.old store.old packet.now threshold sum_word
-        (offer_said result) session.new store.new }
+        (said result) session.new store.new }
 {
     let opened = reorder_offer::open_or(*session, store, packet, threshold, sum_word);
     *session = opened.session;
@@ -32,8 +30,8 @@ pub fn open(
 }
 
 // Holds the packet at its position, in the position's 1,080 bytes of the store.
-pub fn offer(session: &mut Session, store: &mut [u8], packet: &[u8]) -> OfferAnswer
-    ensures { Offers session.old store.old packet.now (offer_said result) session.new store.new }
+pub fn offer(session: &mut Session, store: &mut [u8], packet: &[u8]) -> Result<u32, Refusal>
+    ensures { Offers session.old store.old packet.now (said result) session.new store.new }
 {
     let offered = reorder_offer::offer(*session, store, packet);
     *session = offered.session;
@@ -41,15 +39,15 @@ pub fn offer(session: &mut Session, store: &mut [u8], packet: &[u8]) -> OfferAns
 }
 
 // Serves the next position.
-pub fn serve(session: &mut Session, out: &mut [u8], store: &[u8]) -> ServeAnswer
-    ensures { Serves session.old out.old store.now (serve_said result) session.new out.new }
+pub fn serve(session: &mut Session, out: &mut [u8], store: &[u8]) -> Result<Turn, Refusal>
+    ensures { Serves session.old out.old store.now (said result) session.new out.new }
 {
     let served = reorder_serve::serve(*session, out, store);
     *session = served.session;
     served.answer
 }
 
-// Serves until a serve waits or the budget is spent; the i-th answer is described, and where it is a packet its bytes stand at 1,080 i.
+// Serves until a serve waits or the budget is spent; the i-th answer is in place i, and where it is a packet its bytes stand at 1,080 i.
 pub fn drain(session: &mut Session, out: &mut [u8], store: &[u8], budget: u32) -> Report
     ensures { DrainsReport session.old out.old store.now budget
         result session.new out.new }
@@ -60,8 +58,8 @@ pub fn drain(session: &mut Session, out: &mut [u8], store: &[u8], budget: u32) -
 }
 
 // Passes next over, by hand. It is lent no bytes.
-pub fn pass(session: &mut Session) -> PassAnswer
-    ensures { Passes session.old (pass_said result) session.new }
+pub fn pass(session: &mut Session) -> Result<u32, Refusal>
+    ensures { Passes session.old (said result) session.new }
 {
     let passed = reorder_pass::pass(*session);
     *session = passed.session;
