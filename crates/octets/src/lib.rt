@@ -2,7 +2,7 @@
 // any index: a byte past the end is read as 0, and one that would be stored past the end is left out.
 #![tactic(auto)]
 
-ghost use Rattle.std.specs.Prelude.{◌≡◌, ◌+◌, length, get_or, drop};
+ghost use Rattle.std.specs.Prelude.{◌≡◌, length, get_or, drop};
 ghost use Rattle.octets.specs.Bytes.{nat_at, int_at, signed, put};
 ghost use Rattle.octets.specs.Table.{octets_at};
 
@@ -16,6 +16,8 @@ pub fn u8_at(bytes: &[u8], i: usize) -> u8
 {
     bytes.get(i).copied().unwrap_or(0)
 }
+
+// The functions for 16, 24 and 32 bits, signed and not, keep their names and promises, which may not change; `Word` reads over the type.
 
 // The number in two bytes from index i on.
 pub fn u16_at(bytes: &[u8], i: usize) -> u16

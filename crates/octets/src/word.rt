@@ -9,10 +9,10 @@ ghost use Rattle.std.proofs.Common.{rules};
 use crate::{i16_at, i32_at, u8_at, u16_at, u32_at, write_into};
 
 pub trait Word: Copy {
-    // Its bytes.
+    // How many bytes it has.
     ghost WIDTH: { ℕ };
 
-    // The number in the bytes from an index on, and so many numbers, one after the other.
+    // The number in the bytes from an index on, and as many numbers from there on as are asked for, one after the other.
     ghost at: { List ℕ → ℕ → Self };
 
     ghost run_at: { List ℕ → ℕ → ℕ → List Self };
@@ -42,6 +42,7 @@ pub fn has_run<W: Word>(size: usize, i: usize, n: usize) -> bool
     i <= size && n <= (size - i) / W::WIDTH
 }
 
+// One impl for each type, written out: no macro of this repository may write an impl.
 impl Word for u8 {
     ghost WIDTH = { 1 };
 
@@ -62,7 +63,7 @@ impl Word for u8 {
     }
 
     fn write_at(self, i: usize, out: &mut [u8]) {
-        write_into(&self.to_be_bytes(), i, out);
+        write_into(&[self], i, out);
     }
 }
 
@@ -86,7 +87,7 @@ impl Word for u16 {
     }
 
     fn write_at(self, i: usize, out: &mut [u8]) {
-        write_into(&self.to_be_bytes(), i, out);
+        write_into(&u16::to_be_bytes(self), i, out);
     }
 }
 
@@ -110,7 +111,7 @@ impl Word for u32 {
     }
 
     fn write_at(self, i: usize, out: &mut [u8]) {
-        write_into(&self.to_be_bytes(), i, out);
+        write_into(&u32::to_be_bytes(self), i, out);
     }
 }
 
@@ -134,7 +135,7 @@ impl Word for i16 {
     }
 
     fn write_at(self, i: usize, out: &mut [u8]) {
-        self.cast_unsigned().write_at(i, out);
+        u16::write_at(self.cast_unsigned(), i, out);
     }
 }
 
@@ -158,6 +159,6 @@ impl Word for i32 {
     }
 
     fn write_at(self, i: usize, out: &mut [u8]) {
-        self.cast_unsigned().write_at(i, out);
+        u32::write_at(self.cast_unsigned(), i, out);
     }
 }

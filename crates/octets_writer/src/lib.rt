@@ -14,6 +14,29 @@ pub fn u16_bytes(x: u16) -> [u8; 2]
     x.to_be_bytes()
 }
 
+// The bits of a signed number of 16 bits in two's complement.
+pub fn i16_bits(word: i16) -> u16
+    ensures { result ≡ complemented 16 word }
+{
+    word.cast_unsigned()
+}
+
+// The bits of a signed number of 32 bits in two's complement.
+pub fn i32_bits(x: i32) -> u32
+    ensures { result ≡ complemented 32 x }
+{
+    x.cast_unsigned()
+}
+
+// Stores a number of 64 bits from index i on.
+pub fn write_u64(x: u64, i: usize, out: &mut [u8])
+    ensures { out.new ≡ put out.old i (octets_of 8 x) }
+{
+    octets::write_into(&x.to_be_bytes(), i, out);
+}
+
+// The five below are the trait's store at a type each: their names and promises may not change.
+
 // Stores a number of 8 bits at index i.
 pub fn write_u8(x: u8, i: usize, out: &mut [u8])
     ensures { out.new ≡ put out.old i (octets_of 1 x) }
@@ -33,27 +56,6 @@ pub fn write_u32(x: u32, i: usize, out: &mut [u8])
     ensures { out.new ≡ put out.old i (octets_of 4 x) }
 {
     x.write_at(i, out);
-}
-
-// Stores a number of 64 bits from index i on.
-pub fn write_u64(x: u64, i: usize, out: &mut [u8])
-    ensures { out.new ≡ put out.old i (octets_of 8 x) }
-{
-    octets::write_into(&x.to_be_bytes(), i, out);
-}
-
-// The bits of a signed number of 16 bits in two's complement.
-pub fn i16_bits(word: i16) -> u16
-    ensures { result ≡ complemented 16 word }
-{
-    word.cast_unsigned()
-}
-
-// The bits of a signed number of 32 bits in two's complement.
-pub fn i32_bits(x: i32) -> u32
-    ensures { result ≡ complemented 32 x }
-{
-    x.cast_unsigned()
 }
 
 // Stores a signed number of 16 bits from index i on.
