@@ -11,6 +11,7 @@ use packet_layout::{INSTRUMENT, LENGTH, PACKET_SIZE, SEGMENTATION};
 use refusal::Refusal;
 
 // Refusals 3 to 8.
+#[tactic(auto, using(octets::proofs::Ladder::rungs), unfolding(crate::specs::Header::header_refusal))]
 fn check_header(bytes: &[u8]) -> Result<(), Refusal>
     ensures { refusal_in (said result) ≡ header_refusal bytes.now }
 {
@@ -37,6 +38,7 @@ fn check_header(bytes: &[u8]) -> Result<(), Refusal>
 }
 
 // Refusals 1 to 10: the check of a packet without its fields. Any bytes, any word.
+#[tactic(auto, using(octets::proofs::Ladder::rungs, refusal::proofs::Said::then_handed_on), unfolding(crate::specs::Refusal::read_refusal))]
 pub fn check_packet(bytes: &[u8], sum_word: usize) -> Result<(), Refusal>
     ensures { refusal_in (said result) ≡ read_refusal bytes.now sum_word }
 {
