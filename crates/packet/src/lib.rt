@@ -7,7 +7,7 @@ ghost use Rattle.packet.specs.Fields.{fields_of, arrays_of, carried_of};
 ghost use Rattle.packet.specs.Read.{read_due, packet_due};
 
 use packet_layout::{
-    BINS, CARRIED_AT, COUNTS, HSTART_AT, PACKET_SIZE, READINGS, READINGS_AT, STATUS_AT,
+    BINS, CARRIED_AT, CARRIED_SIZE, COUNTS, HSTART_AT, READINGS, READINGS_AT, STATUS_AT,
     TEMPERATURES, TEMPERATURES_AT,
 };
 use refusal::Refusal;
@@ -110,6 +110,6 @@ pub fn read_packet(bytes: &[u8], sum_word: usize) -> Result<Packet, Refusal>
 pub fn carried(bytes: &[u8]) -> &[u8]
     ensures { result.now ≡ carried_of bytes.now }
 {
-    let end = bytes.len().min(PACKET_SIZE);
-    &bytes[end.min(CARRIED_AT)..end]
+    let rest = octets::bytes_from(bytes, CARRIED_AT);
+    &rest[..CARRIED_SIZE.min(rest.len())]
 }
