@@ -2,9 +2,10 @@
 use Rattle.std.specs.Prelude.{ℕ, ◌-◌, ◌≤◌, ◌≡◌, List, get_or}
 use Rattle.pedr_layout.specs.Layout.{shot_count}
 use Rattle.pedr_flags.specs.Quality.{good_shot}
+use Rattle.pedr_flags.specs.Class.{class_of}
 use Rattle.pedr_flags.specs.Encoder.{encoder_of}
 use Rattle.pedr_fields.specs.Fields.{fields_of}
-use Rattle.pedr_arrays.specs.Arrays.{shot_class, no_failures, arrays_of}
+use Rattle.pedr_arrays.specs.Arrays.{no_failures, arrays_of}
 use Rattle.pedr_fields.specs.declared.RecordFields.{RecordFields}
 use Rattle.pedr_arrays.specs.declared.RecordArrays.{RecordArrays}
 use Rattle.pedr_shot.specs.Shot.{shot_of}
@@ -21,7 +22,7 @@ shot_from f a k =
       pulse_width = get_or a.shots.pulse_width (k - 1) 0;
       optical_width = get_or a.shots.optical_width (k - 1) 0;
       laser_power = get_or a.shots.laser_power (k - 1) 0;
-      class = (get_or a.shots.class (k - 1) (shot_class 0)).class;
+      class = get_or a.shots.class (k - 1) (class_of 0);
       encoder = get_or a.shots.encoder (k - 1) (encoder_of 0);
       good = good_shot f.quality.good k;
       failures = get_or a.shots.failures (k - 1) no_failures;

@@ -6,8 +6,6 @@ ghost use Rattle.pedr_laws.specs.Frame.{CaseIsIndex, frame_read};
 ghost use Rattle.pedr_laws.specs.Shots.{ShotsAgree};
 ghost use Rattle.pedr_laws.specs.Flags.{FlagsKept};
 
-use pedr::RecordAnswer;
-
 // A shot's values by the shot entry are those at its index in the record's arrays.
 pub fn shots_agree()
     ensures { ShotsAgree }
@@ -27,10 +25,8 @@ pub fn case_is_index()
 pub fn frame_read(bytes: &[u8]) -> u16
     ensures { result ≡ frame_read bytes.now }
 {
-    let read = pedr::read_record(bytes);
-    let answer = read.answer;
-    let RecordAnswer::Accepted(_, block) = answer else {
-        return 0;
-    };
-    pedr_block::frame_number(block)
+    match pedr::read_record(bytes) {
+        Ok(record) => pedr_block::frame_number(record.block),
+        Err(_) => 0,
+    }
 }

@@ -11,19 +11,18 @@ use Rattle.pedr_block.specs.Block.{block_of, frame_number}
 use Rattle.pedr_block.specs.declared.Block.{Block}
 use Rattle.pedr_block.proofs.Frame.{case_is_index}
 use Rattle.pedr_check.proofs.Accept.{accepted}
-use Rattle.pedr.specs.Read.{record_said}
 use Rattle.pedr_laws.proofs.frame_read.Goals as goal
 
-pub returns-in_default : goal.returns-in_default
-returns-in_default c =
+pub returns-in-Err : goal.returns-in-Err
+returns-in-Err c =
     let s : List ℕ = c.args.bytes.now in
-    let q = refusal_said {A = RecordFields × Block} _ _ (fields_of s, block_of s) (sym (ap record_said c.in_default.is) ∙ c.read_record-read.ensures.0) in
+    let q = refusal_said {A = RecordFields × Block} _ _ (fields_of s, block_of s) c.in-Err.ensures.fields in
     after_refused _ _ (value s frame_index) 0 q.0 (λ z. q.1 (sym q.0 ∙ z))
 
-pub returns : goal.returns
-returns c =
+pub returns-in-Ok : goal.returns-in-Ok
+returns-in-Ok c =
     let s : List ℕ = c.args.bytes.now in
-    let q = answer_said {A = RecordFields × Block} _ (fields_of s, block_of s) _ (sym (ap record_said c.in-Accepted.is) ∙ c.read_record-read.ensures.0) in
+    let q = answer_said {A = RecordFields × Block} _ (fields_of s, block_of s) _ c.in-Ok.ensures.fields in
     let i = (accepted s q.0).index in
     after_done _ (value s frame_index) 0 _ q.0
     (c.frame_number.ensures ∙ ap (λ (x : RecordFields × Block). frame_number x.1) q.1 ∙ case_is_index s i.0 i.1)

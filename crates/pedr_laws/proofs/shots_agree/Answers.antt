@@ -13,9 +13,10 @@ use Rattle.layout.specs.Column.{value, item}
 use Rattle.pedr_layout.specs.Layout.{quality_number, class, encoder}
 use Rattle.pedr_flags.specs.Quality.{quality_of}
 use Rattle.pedr_flags.specs.Descriptor.{failures_of, all_failures_of}
+use Rattle.pedr_flags.specs.Class.{class_of}
 use Rattle.pedr_flags.specs.Encoder.{encoder_of}
 use Rattle.pedr_fields.specs.Fields.{fields_of}
-use Rattle.pedr_arrays.specs.Arrays.{shot_class, no_failures, classes_of, encoders_of, shot_arrays_of, arrays_of}
+use Rattle.pedr_arrays.specs.Arrays.{no_failures, classes_of, encoders_of, shot_arrays_of, arrays_of}
 use Rattle.pedr_shot.specs.Shot.{shot_of}
 use Rattle.pedr_laws.specs.Shots.{shot_from}
 use Rattle.pedr_laws.proofs.shots_agree.Goals as goal
@@ -24,9 +25,9 @@ item_at : (s : List ℕ) (i w k : ℕ) → k < 20 → get_or (nats_at s i w 20) 
 unfolding nats_at
 item_at s i w k h = table_at 20 (λ j. nat_at s (i + w * j) w) k 0 h
 
-class_at : (s : List ℕ) (k : ℕ) → k < 20 → get_or (classes_of s) k (shot_class 0) ≡ shot_class (item s class k)
+class_at : (s : List ℕ) (k : ℕ) → k < 20 → get_or (classes_of s) k (class_of 0) ≡ class_of (item s class k)
 unfolding classes_of
-class_at s k h = table_at 20 (λ j. shot_class (item s class j)) k (shot_class 0) h
+class_at s k h = table_at 20 (λ j. class_of (item s class j)) k (class_of 0) h
 
 encoder_at : (s : List ℕ) (k : ℕ) → k < 20 → get_or (encoders_of s) k (encoder_of 0) ≡ encoder_of (item s encoder k)
 unfolding encoders_of
@@ -50,7 +51,7 @@ returns c = λ s k lo hi.
       pulse_width = item_at s 244 2 (k - 1) h i;
       optical_width = item_at s 284 2 (k - 1) h i;
       laser_power = item_at s 344 2 (k - 1) h i;
-      class = (class_at s (k - 1) h i).class;
+      class = class_at s (k - 1) h i;
       encoder = encoder_at s (k - 1) h i;
       good = eqb (b i) 1;
       failures = (failures_at s (k - 1) h ∙ ap (failures_of s) e) i;
