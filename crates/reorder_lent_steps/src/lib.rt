@@ -30,7 +30,11 @@ pub fn open_start(
     reorder_local::open(session, store, packet, threshold, sum_word)
 }
 
-pub fn offer_step(session: Session, store: &mut [u8], packet: &[u8]) -> Stepped<Result<u32, Refusal>, Session>
+pub fn offer_step(
+    session: Session,
+    store: &mut [u8],
+    packet: &[u8],
+) -> Stepped<Result<u32, Refusal>, Session>
     ensures { Offers session store.old packet.now (said result.answer) result.session store.new
         × IsStep single session store.old (offer packet.now)
         result.session store.new (offer_tells (said result.answer) packet.now) }
@@ -38,7 +42,11 @@ pub fn offer_step(session: Session, store: &mut [u8], packet: &[u8]) -> Stepped<
     reorder_local::offer(session, store, packet)
 }
 
-pub fn serve_step(session: Session, out: &mut [u8], store: &[u8]) -> Stepped<Result<Turn, Refusal>, Session>
+pub fn serve_step(
+    session: Session,
+    out: &mut [u8],
+    store: &[u8],
+) -> Stepped<Result<Turn, Refusal>, Session>
     ensures { Serves session out.old store.now (said result.answer) result.session out.new
         × IsStep single session store.now (serve out.old)
         result.session store.now (serve_tells (said result.answer) out.new) }
@@ -46,7 +54,12 @@ pub fn serve_step(session: Session, out: &mut [u8], store: &[u8]) -> Stepped<Res
     reorder_local::serve(session, out, store)
 }
 
-pub fn drain_step(session: Session, out: &mut [u8], store: &[u8], budget: u32) -> Stepped<Report, Session>
+pub fn drain_step(
+    session: Session,
+    out: &mut [u8],
+    store: &[u8],
+    budget: u32,
+) -> Stepped<Report, Session>
     ensures { DrainsReport session out.old store.now budget result.answer result.session out.new
         × IsStep single session store.now (drain out.old budget)
         result.session store.now (drain_tells (report_said result.answer) out.new) }
