@@ -13,10 +13,10 @@ use packet_layout::PUBLISHED_SUM_WORD;
 use std::io;
 
 // A heading, and a line for each row of a table.
-fn run<F: Fn(usize, u64) -> io::Result<()>>(
+fn run<T: Copy, F: Fn(usize, T) -> io::Result<()>>(
     rt: &impl Print,
     heading: &str,
-    rows: &[u64],
+    rows: &[T],
     line: F,
 ) -> io::Result<()>
     requires { F.IsAlwaysCallable line }
@@ -29,10 +29,10 @@ fn run<F: Fn(usize, u64) -> io::Result<()>>(
 }
 
 // A word outside 53 to 539, told to the reader and to the writer.
-fn refused_word(rt: &impl Print, i: usize, word: u64) -> io::Result<()> {
+fn refused_word(rt: &impl Print, i: usize, word: usize) -> io::Result<()> {
     let row = 2 * tables::DUE;
-    reads::read_at(rt, i, row, PUBLISHED_SUM_WORD, word as usize)?;
-    writes::write_at(rt, i, row, word as usize)
+    reads::read_at(rt, i, row, PUBLISHED_SUM_WORD, word)?;
+    writes::write_at(rt, i, row, word)
 }
 
 fn main(rt: HostRuntime) -> io::Result<()> {
@@ -65,7 +65,7 @@ fn main(rt: HostRuntime) -> io::Result<()> {
         &rt,
         "HSTART, first bin, starts of bins 0, 1, 47",
         &tables::HSTARTS,
-        |_, h| reads::hstart(&rt, (h % 65536) as u16),
+        |_, h| reads::hstart(&rt, h),
     )?;
     run(
         &rt,

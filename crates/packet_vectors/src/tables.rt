@@ -295,7 +295,7 @@ pub const CHECKS: [u64; 132] = [
 ];
 
 // Sum words for which the reader and the writer give 2.
-pub const WORDS: [u64; 10] = [
+pub const WORDS: [usize; 10] = [
     0,
     1,
     52, // HSTART's
@@ -356,7 +356,7 @@ pub const WRITES: [u64; 41] = [
     17 * DUE + CARRIED + 975 + AND * (OUTPUT + 0), // 17 and 18
 ];
 
-pub const HSTARTS: [u64; 13] = [0, 1, 2, 3, 4, 6, 7, 8, 4660, 32767, 32768, 65534, 65535];
+pub const HSTARTS: [u16; 13] = [0, 1, 2, 3, 4, 6, 7, 8, 4660, 32767, 32768, 65534, 65535];
 
 // Bytes whose words are summed: a row's packet, its first bytes, or the packet and the fill past it; whole, and cut before a word, 0 if not named.
 pub const SUMS: [u64; 16] = [
