@@ -1,6 +1,7 @@
 // The rows. Each is a number, the sum of parts named here: it starts a new record or keeps the last one, may change it, and may have it read.
 // So 13 * DUE + ZEROS + READ + PUT4 + 5 * BYTE + 1_000_000 is a record of zeros with 1,000,000 in the four bytes
-// from record byte 5 on, read, with refusal 13 due.
+// from record byte 5 on, read, with refusal 13 due. Rows stay numbers: a struct of enums for each would be no plainer, since most of these 424 lines
+// name two parts or three.
 
 pub const DUE: u64 = 10_000_000_000_000_000; // times the refusal that is due, of the record or of the shot; 0 where none is
 
@@ -47,7 +48,7 @@ pub const NEGATIVE2: u64 = 65_536;
 
 pub const COUNT: usize = 424;
 
-const CASES: [u64; COUNT] = [
+pub const CASES: [u64; COUNT] = [
     // The fills in full, and some of their shots.
     ZEROS + READ,
     ONES + FULL,
@@ -498,8 +499,3 @@ const CASES: [u64; COUNT] = [
     15 * DUE + COUNTING + READ + PUT2 + 491 * BYTE + 0x0600,
     15 * DUE + COUNTING + READ + PUT2 + 491 * BYTE + 0x0700,
 ];
-
-// Row i, from 0; past the end, 0.
-pub(crate) fn row(i: usize) -> u64 {
-    if i < COUNT { CASES[i] } else { 0 }
-}

@@ -1,13 +1,11 @@
 // The columns that are single numbers, group by group, and the legend.
-use crate::show;
 use pedr_fields::{FrameTime, OrbitPosition, PacketLink, Pointing, Ranges, Receiver, RecordFields};
 use pedr_flags::{Descriptor, Quality};
-use std::io::Stdout;
+use std::io;
 
-pub(crate) fn legend(stdout: Stdout) {
-    show::text(
-        stdout,
-        b"record: time whole micros in_micros, position orbit latitude longitude radial_distance ground_latitude \
+pub(crate) fn legend(rt: &impl Print) -> io::Result<()> {
+    rt.println(
+        "record: time whole micros in_micros, position orbit latitude longitude radial_distance ground_latitude \
         ground_longitude, quality good carried counter, descriptor packet_sum software_sum mode ots carried, \
         pointing right_ascension declination twist, ranges mid_point_range frame_radius delay width, \
         receiver channel_mask minimum_hits hit_count frame_counter trigger frame_index, \
@@ -17,86 +15,67 @@ pub(crate) fn legend(stdout: Stdout) {
         shot: radius energy reflectivity trigger_channel pulse_width optical_width laser_power, \
         class_case (0 no trigger, 1 probable ground, 2 unassigned) class_number, \
         encoder start carried_low stop carried_high, failures power energy range window comparison, good\n\
-        channel: noise threshold\n",
-    );
+        channel: noise threshold",
+    )
 }
 
-pub(crate) fn bit(b: bool) -> u64 {
-    if b { 1 } else { 0 }
+fn show_time(rt: &impl Print, t: FrameTime) -> io::Result<()> {
+    let in_micros = pedr_fields::time_in_micros(t);
+    print!(rt; ": time {} {} {in_micros}", t.whole, t.micros)
 }
 
-fn show_time(stdout: Stdout, t: FrameTime) {
-    show::text(stdout, b": time");
-    show::signed_32(stdout, t.whole);
-    show::signed_32(stdout, t.micros);
-    show::signed(stdout, pedr_fields::time_in_micros(t));
+fn show_position(rt: &impl Print, p: OrbitPosition) -> io::Result<()> {
+    print!(rt; ", position {} {} {}", p.orbit, p.latitude, p.longitude)?;
+    print!(rt;
+        " {} {} {}",
+        p.radial_distance, p.ground_latitude, p.ground_longitude
+    )
 }
 
-fn show_position(stdout: Stdout, p: OrbitPosition) {
-    show::text(stdout, b", position");
-    show::entry_32(stdout, p.orbit);
-    show::signed_32(stdout, p.latitude);
-    show::signed_32(stdout, p.longitude);
-    show::entry_32(stdout, p.radial_distance);
-    show::signed_32(stdout, p.ground_latitude);
-    show::signed_32(stdout, p.ground_longitude);
+fn show_quality(rt: &impl Print, q: Quality) -> io::Result<()> {
+    print!(rt; ", quality {} {} {}", q.good, q.carried, q.counter)
 }
 
-fn show_quality(stdout: Stdout, q: Quality) {
-    show::text(stdout, b", quality");
-    show::entry_32(stdout, q.good);
-    show::entry(stdout, q.carried as u64);
-    show::entry(stdout, q.counter as u64);
+fn show_descriptor(rt: &impl Print, d: Descriptor) -> io::Result<()> {
+    print!(rt;
+        ", descriptor {} {}",
+        u8::from(d.packet_sum),
+        u8::from(d.software_sum)
+    )?;
+    print!(rt; " {} {} {}", u8::from(d.mode), u8::from(d.ots), d.carried)
 }
 
-fn show_descriptor(stdout: Stdout, d: Descriptor) {
-    show::text(stdout, b", descriptor");
-    show::entry(stdout, bit(d.packet_sum));
-    show::entry(stdout, bit(d.software_sum));
-    show::entry(stdout, bit(d.mode));
-    show::entry(stdout, bit(d.ots));
-    show::entry_32(stdout, d.carried);
+fn show_pointing(rt: &impl Print, p: Pointing) -> io::Result<()> {
+    print!(rt;
+        ", pointing {} {} {}",
+        p.right_ascension, p.declination, p.twist
+    )
 }
 
-fn show_pointing(stdout: Stdout, p: Pointing) {
-    show::text(stdout, b", pointing");
-    show::signed_32(stdout, p.right_ascension);
-    show::signed_32(stdout, p.declination);
-    show::signed_32(stdout, p.twist);
+fn show_ranges(rt: &impl Print, r: Ranges) -> io::Result<()> {
+    print!(rt; ", ranges {} {}", r.mid_point_range, r.frame_radius)?;
+    print!(rt; " {} {}", r.delay, r.width)
 }
 
-fn show_ranges(stdout: Stdout, r: Ranges) {
-    show::text(stdout, b", ranges");
-    show::entry_32(stdout, r.mid_point_range);
-    show::entry_32(stdout, r.frame_radius);
-    show::entry_32(stdout, r.delay);
-    show::entry_32(stdout, r.width);
+fn show_receiver(rt: &impl Print, r: Receiver) -> io::Result<()> {
+    print!(rt;
+        ", receiver {} {} {}",
+        r.channel_mask, r.minimum_hits, r.hit_count
+    )?;
+    print!(rt; " {} {} {}", r.frame_counter, r.trigger, r.frame_index)
 }
 
-fn show_receiver(stdout: Stdout, r: Receiver) {
-    show::text(stdout, b", receiver");
-    show::entry(stdout, r.channel_mask as u64);
-    show::entry(stdout, r.minimum_hits as u64);
-    show::entry(stdout, r.hit_count as u64);
-    show::entry(stdout, r.frame_counter as u64);
-    show::entry(stdout, r.trigger as u64);
-    show::entry(stdout, r.frame_index as u64);
+fn show_link(rt: &impl Print, l: PacketLink) -> io::Result<()> {
+    print!(rt; ", packet {} {} {}", l.seconds, l.millis, l.fine_time)
 }
 
-fn show_link(stdout: Stdout, l: PacketLink) {
-    show::text(stdout, b", packet");
-    show::signed_32(stdout, l.seconds);
-    show::signed_16(stdout, l.millis);
-    show::entry(stdout, l.fine_time as u64);
-}
-
-pub(crate) fn show_fields(stdout: Stdout, f: RecordFields) {
-    show_time(stdout, f.time);
-    show_position(stdout, f.position);
-    show_quality(stdout, f.quality);
-    show_descriptor(stdout, f.descriptor);
-    show_pointing(stdout, f.pointing);
-    show_ranges(stdout, f.ranges);
-    show_receiver(stdout, f.receiver);
-    show_link(stdout, f.link);
+pub(crate) fn show_fields(rt: &impl Print, f: &RecordFields) -> io::Result<()> {
+    show_time(rt, f.time)?;
+    show_position(rt, f.position)?;
+    show_quality(rt, f.quality)?;
+    show_descriptor(rt, f.descriptor)?;
+    show_pointing(rt, f.pointing)?;
+    show_ranges(rt, f.ranges)?;
+    show_receiver(rt, f.receiver)?;
+    show_link(rt, f.link)
 }

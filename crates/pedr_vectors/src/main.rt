@@ -12,28 +12,27 @@ mod rows;
 mod shots;
 mod show;
 
-use std::io::Stdout;
+use std::io;
 
-// The first n rows in turn; each finds the record as the last one left it.
-fn run_all(stdout: Stdout, n: usize) {
+// The rows in turn; each finds the record as the last one left it.
+fn run_all(rt: &impl Print) -> io::Result<()> {
     let mut room = [0; 800];
     let mut length = pedr_layout::RECORD_SIZE;
-    let mut i = 0;
-    while i < n {
-        let row = cases::row(i);
-        let fill = rows::fill(row);
+    for (i, row) in cases::CASES.iter().enumerate() {
+        let fill = rows::fill(*row);
         if fill != 0 {
             room = record::filled(fill);
         }
-        record::change(row, &mut room);
-        length = record::length_after(row, length);
-        reads::ask_first(stdout, i, row, length, &room);
-        i = i + 1;
+        record::change(*row, &mut room);
+        length = record::length_after(*row, length);
+        if let Some(bytes) = room.get(..length) {
+            reads::ask(rt, i, *row, bytes)?;
+        }
     }
+    Ok(())
 }
 
-fn main(rt: HostRuntime) {
-    let stdout = rt.stdout();
-    fields::legend(stdout);
-    run_all(stdout, cases::COUNT);
+fn main(rt: HostRuntime) -> io::Result<()> {
+    fields::legend(&rt)?;
+    run_all(&rt)
 }

@@ -1,114 +1,83 @@
 // Records and shots that are read, one line each.
 use crate::{cases, fields, frames, rows, shots, show};
-use pedr::RecordAnswer;
+use pedr::Record;
 use pedr_arrays::RecordArrays;
-use pedr_block::Block;
-use pedr_fields::RecordFields;
-use pedr_layout::UNINTERPRETED;
-use pedr_shot::{ShotAnswer, ShotFields};
-use std::io::Stdout;
+use pedr_layout::{CARRIED_MOST, UNINTERPRETED};
+use pedr_shot::ShotFields;
+use refusal::Refusal;
+use std::io;
 
-// How a line starts: what is read, the row's number, and how many bytes the library is given.
-fn head(stdout: Stdout, name: &[u8], i: usize, length: usize) {
-    show::text(stdout, name);
-    show::entry(stdout, i as u64);
-    show::text(stdout, b" len");
-    show::entry(stdout, length as u64);
-}
-
-fn refused(stdout: Stdout, n: u8) {
-    show::text(stdout, b": refused");
-    show::entry(stdout, n as u64);
+fn refused(rt: &impl Print, refusal: Refusal) -> io::Result<()> {
+    print!(rt; ": refused {}", u8::from(refusal))
 }
 
 // X, Y, Z, the source header, and the digests of the longer arrays, after those of shots and channels where they are asked for in full.
 fn show_arrays(
-    stdout: Stdout,
-    arrays: RecordArrays,
-    uninterpreted: [u8; UNINTERPRETED],
+    rt: &impl Print,
+    arrays: &RecordArrays,
+    uninterpreted: &[u8; UNINTERPRETED],
     full: bool,
-) {
-    let xyz = arrays.xyz;
-    let header = arrays.source_header;
-    show::text(stdout, b", xyz");
-    show::signed_32(stdout, xyz[0]);
-    show::signed_32(stdout, xyz[1]);
-    show::signed_32(stdout, xyz[2]);
-    show::text(stdout, b", header");
-    show::entry_32(stdout, header[0]);
-    show::entry_32(stdout, header[1]);
-    let of_shots = shots::show_shots(stdout, arrays.shots, full);
-    let of_channels = shots::show_channels(stdout, arrays.channels, full);
-    if full {
-        show::text(stdout, b"\n  digests");
-    } else {
-        show::text(stdout, b", digests");
-    }
-    show::entry(stdout, of_shots);
-    show::entry(stdout, of_channels);
-    show::entry(stdout, show::digest(stdout, &uninterpreted));
+) -> io::Result<()> {
+    rt.print(", xyz")?;
+    show::entries(rt, &arrays.xyz)?;
+    rt.print(", header")?;
+    show::entries(rt, &arrays.source_header)?;
+    let of_shots = shots::show_shots(rt, &arrays.shots, full)?;
+    let of_channels = shots::show_channels(rt, &arrays.channels, full)?;
+    rt.print(if full { "\n  digests" } else { ", digests" })?;
+    print!(rt; " {of_shots} {of_channels} {}", show::digest(uninterpreted))
 }
 
-fn accepted(stdout: Stdout, f: RecordFields, block: Block) {
-    fields::show_fields(stdout, f);
-    frames::show_block(stdout, block);
+fn accepted(rt: &impl Print, record: &Record, full: bool) -> io::Result<()> {
+    fields::show_fields(rt, &record.fields)?;
+    frames::show_block(rt, record.block)?;
+    frames::show_runs(rt, &record.runs, &record.carried)?;
+    show_arrays(rt, &record.arrays, &record.uninterpreted, full)
 }
 
-fn read(stdout: Stdout, row: u64, bytes: &[u8]) {
+// What the reader says of bytes. The table gives a refusal runs and arrays of zeros.
+fn read(rt: &impl Print, row: u64, bytes: &[u8]) -> io::Result<()> {
     let full = rows::show(row) == cases::FULL;
-    let record = pedr::read_record(bytes);
-    let answer = record.answer;
-    let arrays = record.arrays;
-    let runs = record.runs;
-    let carried = record.carried;
-    let uninterpreted = record.uninterpreted;
+    let answer = pedr::read_record(bytes);
     match answer {
-        RecordAnswer::Refused(n) => refused(stdout, n),
-        RecordAnswer::Accepted(f, block) => accepted(stdout, f, block),
+        Ok(record) => accepted(rt, &record, full)?,
+        Err(refusal) => {
+            refused(rt, refusal)?;
+            frames::show_runs(rt, &pedr_block_runs::no_runs(), &[0; CARRIED_MOST])?;
+            show_arrays(rt, &pedr_arrays::no_arrays(), &[0; UNINTERPRETED], full)?;
+        }
     }
-    frames::show_runs(stdout, runs, carried);
-    show_arrays(stdout, arrays, uninterpreted, full);
-    show::check(stdout, pedr::refusal_number(answer), row / cases::DUE);
+    show::check(rt, refusal::number_of(answer), row / cases::DUE)
 }
 
-fn show_shot(stdout: Stdout, f: ShotFields) {
-    let all = shots::numbers(f);
-    show::text(stdout, b":");
-    show::digested(stdout, 1, &all, true);
-    show::text(stdout, b", good");
-    show::entry(stdout, fields::bit(f.good));
+fn show_shot(rt: &impl Print, f: &ShotFields) -> io::Result<()> {
+    rt.print(":")?;
+    show::entries(rt, &shots::numbers(f))?;
+    print!(rt; ", good {}", u8::from(f.good))
 }
 
-fn read_shot(stdout: Stdout, row: u64, bytes: &[u8]) {
+fn read_shot(rt: &impl Print, row: u64, bytes: &[u8]) -> io::Result<()> {
     let shot = row % cases::BYTE;
-    show::text(stdout, b" shot");
-    show::entry(stdout, shot);
+    print!(rt; " shot {shot}")?;
     let answer = pedr_shot::read_shot(bytes, shot as usize);
     match answer {
-        ShotAnswer::Refused(n) => refused(stdout, n),
-        ShotAnswer::Accepted(f) => show_shot(stdout, f),
+        Ok(f) => show_shot(rt, &f)?,
+        Err(refusal) => refused(rt, refusal)?,
     }
-    show::check(stdout, pedr_shot::refusal_number(answer), row / cases::DUE);
+    show::check(rt, refusal::number_of(answer), row / cases::DUE)
 }
 
-// Has the bytes read as a row asks.
-fn ask(stdout: Stdout, i: usize, row: u64, bytes: &[u8]) {
+// Has the bytes that the library is given read as a row asks. A line starts with what is read, the row's number, and how many bytes these are.
+pub(crate) fn ask(rt: &impl Print, i: usize, row: u64, bytes: &[u8]) -> io::Result<()> {
     if rows::step(row) == cases::SHOT {
-        head(stdout, b"shot", i, bytes.len());
-        read_shot(stdout, row, bytes);
-        show::text(stdout, b"\n");
+        print!(rt; "shot {i} len {}", bytes.len())?;
+        read_shot(rt, row, bytes)?;
+        println!(rt)?;
     }
     if rows::show(row) != 0 {
-        head(stdout, b"record", i, bytes.len());
-        read(stdout, row, bytes);
-        show::text(stdout, b"\n");
+        print!(rt; "record {i} len {}", bytes.len())?;
+        read(rt, row, bytes)?;
+        println!(rt)?;
     }
-}
-
-// The same with as many bytes of the room as the library is to be given.
-pub(crate) fn ask_first(stdout: Stdout, i: usize, row: u64, length: usize, room: &[u8; 800]) {
-    let bytes = &room[..];
-    if length <= bytes.len() {
-        ask(stdout, i, row, &bytes[..length]);
-    }
+    Ok(())
 }

@@ -38,20 +38,15 @@ pub(crate) fn filled(fill: u64) -> [u8; 800] {
         room[491] = 1;
         return room;
     }
-    let mut k = 0;
-    while k < 800 {
-        room[k] = fill_byte(fill, k + 1);
-        k = k + 1;
+    for (k, byte) in room.iter_mut().enumerate() {
+        *byte = fill_byte(fill, k + 1);
     }
     room
 }
 
 // Puts the lowest 8 bits of a number at record byte b.
 fn put_byte(b: usize, number: u64, room: &mut [u8; 800]) {
-    if b < 1 {
-        return;
-    }
-    if b <= 800 {
+    if (1..=800).contains(&b) {
         room[b - 1] = (number % 256) as u8;
     }
 }
@@ -63,11 +58,8 @@ fn put_two(b: usize, number: u64, room: &mut [u8; 800]) {
 }
 
 fn flip(b: usize, bit: u64, room: &mut [u8; 800]) {
-    if b < 1 {
-        return;
-    }
-    if b <= 800 {
-        room[b - 1] = room[b - 1] ^ (1 << (bit % 8));
+    if (1..=800).contains(&b) {
+        room[b - 1] ^= 1 << (bit % 8);
     }
 }
 

@@ -1,11 +1,12 @@
 // The columns of shots and channels.
 ghost use Rattle.std.specs.Prelude.{◌<◌};
 
-use crate::{fields, show};
+use crate::show;
 use pedr_arrays::{ChannelArrays, ShotArrays};
 use pedr_flags::Class;
+use pedr_layout::SHOTS;
 use pedr_shot::ShotFields;
-use std::io::Stdout;
+use std::io;
 
 fn class_case(class: Class) -> u64 {
     match class {
@@ -16,38 +17,33 @@ fn class_case(class: Class) -> u64 {
 }
 
 // The numbers of a shot in the legend's order, but for whether it is good.
-pub(crate) fn numbers(f: ShotFields) -> [u64; 18] {
-    let class = f.class;
-    let encoder = f.encoder;
-    let failures = f.failures;
+pub(crate) fn numbers(f: &ShotFields) -> [u64; 18] {
     [
-        f.radius as u64,
-        f.energy as u64,
-        f.reflectivity as u64,
-        f.trigger_channel as u64,
-        f.pulse_width as u64,
-        f.optical_width as u64,
-        f.laser_power as u64,
-        class_case(class),
-        pedr_flags::class_number(class) as u64,
-        encoder.start as u64,
-        encoder.carried_low as u64,
-        encoder.stop as u64,
-        encoder.carried_high as u64,
-        fields::bit(failures.power),
-        fields::bit(failures.energy),
-        fields::bit(failures.range),
-        fields::bit(failures.window),
-        fields::bit(failures.comparison),
+        u64::from(f.radius),
+        u64::from(f.energy),
+        u64::from(f.reflectivity),
+        u64::from(f.trigger_channel),
+        u64::from(f.pulse_width),
+        u64::from(f.optical_width),
+        u64::from(f.laser_power),
+        class_case(f.class),
+        u64::from(u16::from(f.class)),
+        u64::from(f.encoder.start),
+        u64::from(f.encoder.carried_low),
+        u64::from(f.encoder.stop),
+        u64::from(f.encoder.carried_high),
+        u64::from(f.failures.power),
+        u64::from(f.failures.energy),
+        u64::from(f.failures.range),
+        u64::from(f.failures.window),
+        u64::from(f.failures.comparison),
     ]
 }
 
 // The shot at index k of the arrays; they don't tell whether it is good.
-fn shot_of(shots: ShotArrays, k: usize) -> ShotFields
+fn shot_of(shots: &ShotArrays, k: usize) -> ShotFields
     requires { k < 20 }
 {
-    let slot = shots.class[k];
-    let class = slot.class;
     ShotFields {
         radius: shots.radius[k],
         energy: shots.energy[k],
@@ -56,46 +52,48 @@ fn shot_of(shots: ShotArrays, k: usize) -> ShotFields
         pulse_width: shots.pulse_width[k],
         optical_width: shots.optical_width[k],
         laser_power: shots.laser_power[k],
-        class,
+        class: shots.class[k],
         encoder: shots.encoder[k],
         good: false,
         failures: shots.failures[k],
     }
 }
 
-// Starts the line of a shot or channel, where these are shown.
-fn start_line(stdout: Stdout, name: &[u8], k: usize, full: bool) {
-    if full {
-        show::text(stdout, name);
-        show::entry(stdout, k as u64);
-        show::text(stdout, b":");
-    }
+// The line of a shot or channel, where these are shown.
+fn show_line(rt: &impl Print, name: &str, k: usize, numbers: &[u64]) -> io::Result<()> {
+    print!(rt; "\n  {name} {k}:")?;
+    show::entries(rt, numbers)
 }
 
 // The digest of the shots, which are shown too in full.
-pub(crate) fn show_shots(stdout: Stdout, shots: ShotArrays, full: bool) -> u64 {
+pub(crate) fn show_shots(rt: &impl Print, shots: &ShotArrays, full: bool) -> io::Result<u64> {
     let mut digest = 1;
-    let mut k = 0;
-    while k < 20 {
-        start_line(stdout, b"\n  shot", k + 1, full);
-        let all = numbers(shot_of(shots, k));
-        digest = show::digested(stdout, digest, &all, full);
-        k = k + 1;
+    for k in 0..SHOTS {
+        let all = numbers(&shot_of(shots, k));
+        if full {
+            show_line(rt, "shot", k + 1, &all)?;
+        }
+        digest = show::digested(digest, &all);
     }
-    digest
+    Ok(digest)
 }
 
 // The digest of the channels, which are shown too in full.
-pub(crate) fn show_channels(stdout: Stdout, channels: ChannelArrays, full: bool) -> u64 {
-    let noise = channels.noise;
-    let thresholds = channels.thresholds;
+pub(crate) fn show_channels(
+    rt: &impl Print,
+    channels: &ChannelArrays,
+    full: bool,
+) -> io::Result<u64> {
     let mut digest = 1;
-    let mut k = 0;
-    while k < 8 {
-        start_line(stdout, b"\n  channel", k + 1, full);
-        let both = [noise[k] as u64, thresholds[k] as u64];
-        digest = show::digested(stdout, digest, &both, full);
-        k = k + 1;
+    for k in 0..8 {
+        let both = [
+            u64::from(channels.noise[k]),
+            u64::from(channels.thresholds[k]),
+        ];
+        if full {
+            show_line(rt, "channel", k + 1, &both)?;
+        }
+        digest = show::digested(digest, &both);
     }
-    digest
+    Ok(digest)
 }
