@@ -6,9 +6,11 @@ use mathlib.Core.List.{List}
 use native.Mathlib.Omega.{arith}
 use lib.ListN.{length}
 use Rattle.octets.specs.Table.{octets_of_all}
-use Rattle.layout.specs.Column.{tiles}
+use Rattle.layout.specs.Column.{Column, tiles, join}
 use Rattle.layout.specs.Row.{row_parts}
 use Rattle.layout.proofs.Cover.{Fit, done, ◌▹◌, join_length}
+use Rattle.layout.proofs.Store.{Puts, puts_join}
+use Rattle.octets.specs.Bytes.{put}
 use Rattle.pedr_layout.specs.Block as columns
 use Rattle.pedr_layout.proofs.Block.{frame_tiles}
 use Rattle.pedr_block.specs.Block.{layout_of}
@@ -20,16 +22,8 @@ use Rattle.pedr_block.specs.declared.Frame6Fields.{Frame6Fields}
 use Rattle.pedr_block.specs.declared.Frame7Fields.{Frame7Fields}
 use Rattle.pedr_block.specs.declared.Block.{Block}
 use Rattle.pedr_block.specs.declared.Block.TheVariants.{Frame1, Frame2, Frame3, Frame4, Frame5, Frame6, Frame7}
-use Rattle.pedr_block_runs.specs.declared.BlockRuns.{BlockRuns}
-use Rattle.pedr_block_writer.specs.Rows.{frame1_row, frame2_row, frame3_row, frame4_row, frame5_row, frame6_row, frame7_row, block_row, block_octets}
+use Rattle.pedr_block_writer.specs.Rows.{frame1_row, frame2_row, frame3_row, frame4_row, frame5_row, frame6_row, frame7_row}
 use Rattle.pedr_block_writer.proofs.Stores.{run_fits, bytes_fit}
-
--- the lengths of the runs' arrays, which their types give
-pub record RunSizes (r : BlockRuns) : Type 0 where
-  pub flags : length r.status_flags ≡ 2
-  pub tracker : length r.range_gate_tracker_array ≡ 14
-  pub dump : length r.memory_dump_segment ≡ 5
-  pub echo : length r.command_echo ≡ 8
 
 pub frame1_fits : (f : Frame1Fields) → Fit (row_parts (columns.columns_in columns.frame1) (frame1_row f)) (columns.columns_in columns.frame1)
 unfolding octets_of_all
@@ -66,16 +60,6 @@ pub frame7_fits : (f : Frame7Fields) (carried : List ℕ)
 unfolding octets_of_all
 frame7_fits f carried = refl ▹ refl ▹ bytes_fit carried 0 4 ▹ refl ▹ refl ▹ refl ▹ refl ▹ refl ▹ refl ▹ bytes_fit carried 4 6 ▹ done
 
-pub block_fits : (b : Block) (r : BlockRuns) (carried : List ℕ) → RunSizes r
-    → Fit (row_parts (columns.columns_in (layout_of b)) (block_row b r carried)) (columns.columns_in (layout_of b))
-block_fits (Frame1 f) r c z = frame1_fits f
-block_fits (Frame2 f) r c z = frame2_fits f
-block_fits (Frame3 f) r c z = frame3_fits f r.status_flags r.range_gate_tracker_array c z.flags z.tracker
-block_fits (Frame4 f) r c z = frame4_fits r.range_gate_tracker_array z.tracker
-block_fits (Frame5 f) r c z = frame5_fits f r.range_gate_tracker_array r.memory_dump_segment c z.tracker z.dump
-block_fits (Frame6 f) r c z = frame6_fits f r.memory_dump_segment r.command_echo z.dump z.echo
-block_fits (Frame7 f) r c z = frame7_fits f c
-
 -- its layout covers the block
 pub block_tiles : (b : Block) → tiles columns.block_start columns.block_end (columns.columns_in (layout_of b)) ≡ true
 block_tiles (Frame1 f) = frame_tiles 1 (omega arith) (omega arith)
@@ -86,9 +70,7 @@ block_tiles (Frame5 f) = frame_tiles 5 (omega arith) (omega arith)
 block_tiles (Frame6 f) = frame_tiles 6 (omega arith) (omega arith)
 block_tiles (Frame7 f) = frame_tiles 7 (omega arith) (omega arith)
 
--- so it has 28 bytes
-pub block_length : (b : Block) (r : BlockRuns) (carried : List ℕ) → RunSizes r → length (block_octets b r carried) ≡ 28
-unfolding block_octets
-block_length b r c z =
-    let l = columns.columns_in (layout_of b) in
-    omega (arith, join_length (row_parts l (block_row b r c)) l columns.block_start columns.block_end (block_tiles b) (block_fits b r c z))
+-- stores at its columns store all of its 28 bytes
+pub frame_stored : (ps : List (List ℕ)) (cs : List Column) {s t : List ℕ} → tiles columns.block_start columns.block_end cs ≡ true → Fit ps cs → Puts s ps cs t
+    → (t ≡ put s columns.block_start (join ps)) × (length (join ps) ≡ 28)
+frame_stored ps cs t f p = (puts_join ps cs columns.block_start columns.block_end t f p, omega (arith, join_length ps cs columns.block_start columns.block_end t f))

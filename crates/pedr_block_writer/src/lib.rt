@@ -1,7 +1,7 @@
 // The engineering block of a PEDR record, stored: record bytes 509 to 536.
 #![tactic(auto)]
 
-ghost use Rattle.std.specs.Prelude.{◌≡◌};
+ghost use Rattle.std.specs.Prelude.{◌≡◌, length};
 ghost use Rattle.octets.specs.Bytes.{put};
 ghost use Rattle.layout.specs.Column.{join};
 ghost use Rattle.layout.specs.Row.{row_parts};
@@ -16,7 +16,8 @@ use pedr_block::{
 use pedr_block_runs::BlockRuns;
 
 fn put_frame_1(fields: Frame1Fields, out: &mut [u8])
-    ensures { out.new ≡ put out.old columns.block_start (join (row_parts (columns.columns_in columns.frame1) (rows.frame1_row fields))) }
+    ensures { let bytes = join (row_parts (columns.columns_in columns.frame1) (rows.frame1_row fields)) in
+        (out.new ≡ put out.old columns.block_start bytes) × (length bytes ≡ 28) }
 {
     let temperatures = [
         fields.computer_memory_temperature,
@@ -38,7 +39,8 @@ fn put_frame_1(fields: Frame1Fields, out: &mut [u8])
 }
 
 fn put_frame_2(fields: Frame2Fields, out: &mut [u8])
-    ensures { out.new ≡ put out.old columns.block_start (join (row_parts (columns.columns_in columns.frame2) (rows.frame2_row fields))) }
+    ensures { let bytes = join (row_parts (columns.columns_in columns.frame2) (rows.frame2_row fields)) in
+        (out.new ≡ put out.old columns.block_start bytes) × (length bytes ≡ 28) }
 {
     let temperatures = [
         fields.electronics_box_top_sc_thrmstr,
@@ -63,7 +65,8 @@ fn put_frame_2(fields: Frame2Fields, out: &mut [u8])
 }
 
 fn put_frame_3(fields: Frame3Fields, runs: &BlockRuns, carried: &[u8], out: &mut [u8])
-    ensures { out.new ≡ put out.old columns.block_start (join (row_parts (columns.columns_in columns.frame3) (rows.frame3_row fields runs.now.status_flags runs.now.range_gate_tracker_array carried.now))) }
+    ensures { let bytes = join (row_parts (columns.columns_in columns.frame3) (rows.frame3_row fields runs.now.status_flags runs.now.range_gate_tracker_array carried.now)) in
+        (out.new ≡ put out.old columns.block_start bytes) × (length bytes ≡ 28) }
 {
     write_u16(fields.minus_5_volt_current_monitor, 508, out);
     write_u16(fields.plus_5_volt_current_monitor, 510, out);
@@ -81,13 +84,15 @@ fn put_frame_3(fields: Frame3Fields, runs: &BlockRuns, carried: &[u8], out: &mut
 }
 
 fn put_frame_4(runs: &BlockRuns, out: &mut [u8])
-    ensures { out.new ≡ put out.old columns.block_start (join (row_parts (columns.columns_in columns.frame4) (rows.frame4_row runs.now.range_gate_tracker_array))) }
+    ensures { let bytes = join (row_parts (columns.columns_in columns.frame4) (rows.frame4_row runs.now.range_gate_tracker_array)) in
+        (out.new ≡ put out.old columns.block_start bytes) × (length bytes ≡ 28) }
 {
     write_run(&runs.range_gate_tracker_array, 508, out);
 }
 
 fn put_frame_5(fields: Frame5Fields, runs: &BlockRuns, carried: &[u8], out: &mut [u8])
-    ensures { out.new ≡ put out.old columns.block_start (join (row_parts (columns.columns_in columns.frame5) (rows.frame5_row fields runs.now.range_gate_tracker_array runs.now.memory_dump_segment carried.now))) }
+    ensures { let bytes = join (row_parts (columns.columns_in columns.frame5) (rows.frame5_row fields runs.now.range_gate_tracker_array runs.now.memory_dump_segment carried.now)) in
+        (out.new ≡ put out.old columns.block_start bytes) × (length bytes ≡ 28) }
 {
     write_run(&runs.range_gate_tracker_array[..6], 508, out);
     write_u32(fields.hstart_value_histogram_dump, 520, out);
@@ -97,7 +102,8 @@ fn put_frame_5(fields: Frame5Fields, runs: &BlockRuns, carried: &[u8], out: &mut
 }
 
 fn put_frame_6(fields: Frame6Fields, runs: &BlockRuns, out: &mut [u8])
-    ensures { out.new ≡ put out.old columns.block_start (join (row_parts (columns.columns_in columns.frame6) (rows.frame6_row fields runs.now.memory_dump_segment runs.now.command_echo))) }
+    ensures { let bytes = join (row_parts (columns.columns_in columns.frame6) (rows.frame6_row fields runs.now.memory_dump_segment runs.now.command_echo)) in
+        (out.new ≡ put out.old columns.block_start bytes) × (length bytes ≡ 28) }
 {
     write_run(&runs.memory_dump_segment, 508, out);
     write_run(&runs.command_echo, 518, out);
@@ -105,7 +111,8 @@ fn put_frame_6(fields: Frame6Fields, runs: &BlockRuns, out: &mut [u8])
 }
 
 fn put_frame_7(fields: Frame7Fields, carried: &[u8], out: &mut [u8])
-    ensures { out.new ≡ put out.old columns.block_start (join (row_parts (columns.columns_in columns.frame7) (rows.frame7_row fields carried.now))) }
+    ensures { let bytes = join (row_parts (columns.columns_in columns.frame7) (rows.frame7_row fields carried.now)) in
+        (out.new ≡ put out.old columns.block_start bytes) × (length bytes ≡ 28) }
 {
     write_u32(fields.ots_range, 508, out);
     write_u32(fields.first_ch_received_energy, 512, out);
@@ -119,9 +126,10 @@ fn put_frame_7(fields: Frame7Fields, carried: &[u8], out: &mut [u8])
     copy_part(carried, 4, 6, 530, out);
 }
 
-// Stores the block of its frame, with the frame's runs and carried bytes. A carried byte past the end of what is given is stored as 0.
+// Stores the 28 bytes of the block of its frame, with the frame's runs and carried bytes. A carried byte past the end of what is given is stored as 0.
 pub fn put_block(block: &Block, runs: &BlockRuns, carried: &[u8], out: &mut [u8])
-    ensures { out.new ≡ put out.old columns.block_start (rows.block_octets block.now runs.now carried.now) }
+    ensures stored { out.new ≡ put out.old columns.block_start (rows.block_octets block.now runs.now carried.now) }
+    ensures size { length (rows.block_octets block.now runs.now carried.now) ≡ 28 }
 {
     match *block {
         Block::Frame1(fields) => put_frame_1(fields, out),

@@ -1,11 +1,13 @@
 -- The parts of a record fit its columns, segment by segment.
-use Prim.Native.Nat.{ℕ, ◌*◌}
+use Prim.Native.Nat.{ℕ, ◌+◌, ◌*◌}
 use mathlib.Core.Path.{◌≡◌, refl, ap, ◌∙◌}
+use mathlib.Core.Bool.{true}
 use mathlib.Core.List.{List, [], ◌∷◌, map}
+use native.Mathlib.Omega.{arith}
 use lib.ListN.{length, take, drop, length-map}
 use Rattle.octets.proofs.Codec.{octets_length}
-use Rattle.layout.specs.Column.{Column, Sign, unsigned, complement, Number, numbers_octets}
-use Rattle.layout.proofs.Cover.{Fit, done, ◌▹◌}
+use Rattle.layout.specs.Column.{Column, tiles, join, Sign, unsigned, complement, Number, numbers_octets}
+use Rattle.layout.proofs.Cover.{Fit, done, ◌▹◌, join_length}
 use Rattle.layout.proofs.Values.{numbers_length}
 use Rattle.numbers.specs.Bit.{from_bits}
 use Rattle.pedr_layout.specs.Layout.{record_columns}
@@ -60,6 +62,10 @@ pub record Sizes (a : RecordArrays) : Type 0 where
   pub thresholds : length a.channels.thresholds ≡ 8
   pub xyz : length a.xyz ≡ 3
   pub source_header : length a.source_header ≡ 2
+
+-- a segment's parts, from index a to index b, have n bytes
+pub sized : (ps : List (List ℕ)) (cs : List Column) (a n b : ℕ) → tiles a b cs ≡ true → a + n ≡ b → Fit ps cs → length (join ps) ≡ n
+sized ps cs a n b t e f = omega (arith, join_length ps cs a b t f)
 
 -- n numbers of w bytes each
 pub run : (g : Sign) (w n : ℕ) (xs : List (Number g)) → length xs ≡ n → length (numbers_octets g w xs) ≡ w * n

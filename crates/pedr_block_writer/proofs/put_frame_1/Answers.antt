@@ -1,4 +1,5 @@
 -- The temperatures, by their types what the machine holds.
+use mathlib.Core.Path.{refl}
 use mir.Syntax.{w16}
 use mir.ValLaws.{to_z-of_z}
 use borrow.Author.Rules.{rules}
@@ -9,6 +10,7 @@ pub returns : goal.returns
 unfolding octets_of_all
 returns c =
     let f = c.args.fields in
+    let stored =
     rw (
       to_z-of_z w16 f.computer_memory_temperature (search rules),
       to_z-of_z w16 f.computer_cpu_temperature (search rules),
@@ -24,4 +26,5 @@ returns c =
       to_z-of_z w16 f.lser_radiator_output_port_temp (search rules),
       to_z-of_z w16 f.interface_plate_hot_foot_temp (search rules),
       to_z-of_z w16 f.honeycomb_panel_temperature (search rules),
-    ) at c.write_run.ensures
+    ) at c.write_run.ensures in
+    (stored, refl)

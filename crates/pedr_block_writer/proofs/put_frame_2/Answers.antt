@@ -13,4 +13,4 @@ returns c =
     let f = c.args.fields in
     let temperatures =
     rw (to_z-of_z w16 f.electronics_box_top_sc_thrmstr (search rules), to_z-of_z w16 f.laser_case_hot_foot_temp (search rules)) at c.write_run.ensures in
-    both_stored _ _ _ _ _ 508 512 refl temperatures c.write_run-2.ensures
+    (both_stored _ _ _ _ _ 508 512 refl temperatures c.write_run-2.ensures, refl)

@@ -8,7 +8,7 @@ use Rattle.layout.proofs.Store.{stop, ◌▸◌, puts_join}
 use borrow.Author.Rules.{rules}
 use Rattle.pedr_flags.specs.Class.{class_number}
 use Rattle.pedr_segments.specs.Parts.{ground_parts}
-use Rattle.pedr_segments.proofs.Fits.{ground_columns, ground_fits}
+use Rattle.pedr_segments.proofs.Fits.{ground_columns, ground_fits, sized}
 use Rattle.pedr_segments.proofs.Stores.{run_stored}
 use Rattle.pedr_segments.proofs.put_ground.Goals as goal
 
@@ -21,9 +21,14 @@ returns c =
     let ground = rw (to_z-of_z w32 _ latitude, to_z-of_z w32 _ longitude) at c.write_run-2.ensures in
     let numbers : length c.class_numbers.result ≡ 20 = search rules in
     let class : length a.shots.class ≡ 20 = sym (length-map a.shots.class class_number) ∙ sym (ap length c.class_numbers.ensures) ∙ numbers in
-    puts_join (ground_parts f a) ground_columns 324 424 refl (ground_fits f a (search rules) (search rules) class)
-    (c.write_run.ensures
-    ▸ ground
-    ▸ c.write_run-3.ensures
-    ▸ run_stored 2 _ _ _ _ _ c.class_numbers.ensures c.write_run-4.ensures
-    ▸ stop)
+    let fit = ground_fits f a (search rules) (search rules) class in
+    record {
+      stored =
+          puts_join (ground_parts f a) ground_columns 324 424 refl fit
+          (c.write_run.ensures
+          ▸ ground
+          ▸ c.write_run-3.ensures
+          ▸ run_stored 2 _ _ _ _ _ c.class_numbers.ensures c.write_run-4.ensures
+          ▸ stop);
+      size = sized (ground_parts f a) ground_columns 324 100 424 refl refl fit;
+    }
