@@ -6,24 +6,22 @@ use std::io::Stdout;
 // The free bytes, by a number that goes with the packet.
 fn filled(s: usize) -> [u8; 1081] {
     let mut bytes = [0; 1081];
-    let mut b = 0;
-    while b < 1081 {
-        bytes[b] = ((37 * b + 11 * (s % 251) + b / 100) % 251) as u8;
-        b = b + 1;
+    for (b, byte) in bytes.iter_mut().enumerate() {
+        *byte = ((37 * b + 11 * (s % 251) + b / 100) % 251) as u8;
     }
     bytes
 }
 
 // Puts a 16-bit number at byte b.
 fn put(number: u64, b: usize, bytes: &mut [u8; 1081]) {
-    let both = [(number / 256 % 256) as u8, (number % 256) as u8];
+    let both = ((number % 65536) as u16).to_be_bytes();
     octets::write_into(&both, b, bytes);
 }
 
 // Turns bits of byte b.
 fn turn(b: usize, bits: u8, bytes: &mut [u8; 1081]) {
-    if b < 1081 {
-        bytes[b] = bytes[b] ^ bits;
+    if let Some(byte) = bytes.get_mut(b) {
+        *byte ^= bits;
     }
 }
 
@@ -43,12 +41,10 @@ fn spoil(row: u64, bytes: &mut [u8; 1081]) {
 // The 540 words added, but the one at sum_word, modulo 65,536.
 fn sum(bytes: &[u8; 1081], sum_word: usize) -> u64 {
     let mut total = 0;
-    let mut w = 0;
-    while w < 540 {
+    for w in 0..540 {
         if w != sum_word {
-            total = (total % 65536 + octets::u16_at(bytes, 2 * w) as u64) % 65536;
+            total = (total % 65536 + u64::from(octets::u16_at(bytes, 2 * w))) % 65536;
         }
-        w = w + 1;
     }
     total
 }
@@ -74,9 +70,10 @@ pub(crate) fn length(row: u64) -> usize {
 
 fn other(row: u64) -> u64 {
     if cases::digit(row, cases::WRONG) == 8 {
-        return 101;
+        101
+    } else {
+        0
     }
-    0
 }
 
 // A row's packet, and a byte more.
@@ -101,7 +98,7 @@ pub(crate) fn packet_of(row: u64, r: Registers) -> [u8; 1081] {
 
 // What a line says of the packet; its damage is the digit at WRONG, and ten times the one at AFTER.
 pub(crate) fn show(stdout: Stdout, row: u64, r: Registers) {
-    show::named(stdout, b" packet", registers::count(row, r));
+    show::named(stdout, " packet", registers::count(row, r));
     show::entry(stdout, registers::time(row, r));
     show::entry(stdout, length(row) as u64);
     show::entry(stdout, row / cases::WRONG % 100);

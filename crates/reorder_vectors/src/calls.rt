@@ -2,12 +2,12 @@
 use crate::cases::Call;
 use crate::registers::Registers;
 use crate::{build, cases, show};
-use reorder_admission::OfferAnswer;
-use reorder_offer::Offered;
-use reorder_pass::PassAnswer;
-use reorder_serve::DrainAnswer;
+use lent_record::Stepped;
+use refusal::Refusal;
+use reorder_rules::{MOST_ANSWERS, Turn};
+use reorder_serve::Report;
 use reorder_session::Session;
-use reorder_turn::{Description, ServeAnswer};
+use reorder_turn::Description;
 use std::io::Stdout;
 
 fn store_length(row: u64) -> usize {
@@ -34,22 +34,30 @@ fn output_length(row: u64) -> usize {
     }
 }
 
-fn offered(stdout: Stdout, answer: OfferAnswer) {
+fn refused(stdout: Stdout, refusal: Refusal) {
+    show::named(stdout, ": refused", u64::from(u8::from(refusal)));
+}
+
+fn offered(stdout: Stdout, answer: Result<u32, Refusal>) {
     match answer {
-        OfferAnswer::Refused(n) => show::named(stdout, b": refused", n as u64),
-        OfferAnswer::Held(p) => show::named(stdout, b": held", p as u64),
+        Ok(p) => show::named(stdout, ": held", u64::from(p)),
+        Err(refusal) => refused(stdout, refusal),
     }
 }
 
 // An opening by value or over the session, or an offer.
-fn call_with(row: u64, r: Registers, store: &mut [u8], packet: &[u8]) -> Offered {
-    let session = r.session;
+fn call_with(
+    row: u64,
+    r: Registers,
+    store: &mut [u8],
+    packet: &[u8],
+) -> Stepped<Result<u32, Refusal>, Session> {
     let threshold = r.told_threshold;
     let sum_word = r.told_word;
     match cases::call_of(row) {
         Call::Open => reorder_offer::open(store, packet, threshold, sum_word),
-        Call::OpenOr => reorder_local::open(session, store, packet, threshold, sum_word),
-        _ => reorder_local::offer(session, store, packet),
+        Call::OpenOr => reorder_local::open(r.session, store, packet, threshold, sum_word),
+        _ => reorder_local::offer(r.session, store, packet),
     }
 }
 
@@ -61,53 +69,49 @@ fn call_packet(stdout: Stdout, row: u64, r: Registers, store: &mut [u8]) -> Sess
         return r.session;
     }
     let made = call_with(row, r, store, &bytes[0..length]);
-    let answer = made.answer;
-    offered(stdout, answer);
+    offered(stdout, made.answer);
     made.session
 }
 
-fn served(stdout: Stdout, answer: ServeAnswer) {
+fn served(stdout: Stdout, answer: Result<Turn, Refusal>) {
     match answer {
-        ServeAnswer::Refused(n) => show::named(stdout, b": refused", n as u64),
-        ServeAnswer::Packet(p) => show::named(stdout, b": packet", p as u64),
-        ServeAnswer::Missing(p) => show::named(stdout, b": missing", p as u64),
-        ServeAnswer::Waiting => show::text(stdout, b": waiting"),
+        Ok(Turn::Packet(p)) => show::named(stdout, ": packet", u64::from(p)),
+        Ok(Turn::Missing(p)) => show::named(stdout, ": missing", u64::from(p)),
+        Ok(Turn::Waiting) => show::text(stdout, ": waiting"),
+        Err(refusal) => refused(stdout, refusal),
     }
 }
 
 fn call_serve(stdout: Stdout, session: Session, store: &[u8], out: &mut [u8]) -> Session {
     let made = reorder_local::serve(session, out, store);
-    let answer = made.answer;
-    served(stdout, answer);
+    served(stdout, made.answer);
     made.session
 }
 
-// The first n descriptions, and the digest of all.
-fn described(stdout: Stdout, n: u32, all: [Description; 32]) {
+// The descriptions of the first n turns, and the digest of all.
+fn described(stdout: Stdout, n: usize, turns: &[Turn; MOST_ANSWERS]) {
     let mut digest = 1;
-    let mut k = 0;
-    while k < 32 {
-        let one = all[k];
-        if k < n as usize {
-            show::entry(stdout, one.kind as u64);
-            show::entry(stdout, one.position as u64);
+    for (k, turn) in turns.iter().enumerate() {
+        let one = Description::from(*turn);
+        if k < n {
+            show::entry(stdout, u64::from(one.kind));
+            show::entry(stdout, u64::from(one.position));
         }
-        digest = show::digested(digest, one.kind as u64);
-        digest = show::digested(digest, one.position as u64);
-        k = k + 1;
+        digest = show::digested(digest, u64::from(one.kind));
+        digest = show::digested(digest, u64::from(one.position));
     }
-    show::named(stdout, b", all 32", digest);
+    show::named(stdout, ", all 32", digest);
 }
 
-fn drained(stdout: Stdout, answer: DrainAnswer, all: [Description; 32]) {
-    match answer {
-        DrainAnswer::Refused(n) => {
-            show::named(stdout, b": refused", n as u64);
-            described(stdout, 0, all);
+fn drained(stdout: Stdout, report: &Report) {
+    match report.answer {
+        Ok(n) => {
+            show::named(stdout, ": count", u64::from(n));
+            described(stdout, n as usize, &report.turns);
         }
-        DrainAnswer::Count(n) => {
-            show::named(stdout, b": count", n as u64);
-            described(stdout, n, all);
+        Err(refusal) => {
+            refused(stdout, refusal);
+            described(stdout, 0, &report.turns);
         }
     }
 }
@@ -120,10 +124,7 @@ fn call_drain(
     out: &mut [u8],
 ) -> Session {
     let made = reorder_local::drain(session, out, store, budget);
-    let report = made.answer;
-    let answer = report.answer;
-    let all = report.descriptions;
-    drained(stdout, answer, all);
+    drained(stdout, &made.answer);
     made.session
 }
 
@@ -136,7 +137,7 @@ fn call_with_output(
     out: &mut [u8],
 ) -> Session {
     let length = output_length(row);
-    show::named(stdout, b" output", length as u64);
+    show::named(stdout, " output", length as u64);
     if out.len() < length {
         return session;
     }
@@ -152,26 +153,16 @@ fn call_with_output(
     }
 }
 
-// What the output has before a call.
-fn blank(out: &mut [u8]) {
-    let mut k = 0;
-    while k < out.len() {
-        out[k] = 165;
-        k = k + 1;
-    }
-}
-
-fn passed(stdout: Stdout, answer: PassAnswer) {
+fn passed(stdout: Stdout, answer: Result<u32, Refusal>) {
     match answer {
-        PassAnswer::Refused(n) => show::named(stdout, b": refused", n as u64),
-        PassAnswer::Missing(p) => show::named(stdout, b": missing", p as u64),
+        Ok(p) => show::named(stdout, ": missing", u64::from(p)),
+        Err(refusal) => refused(stdout, refusal),
     }
 }
 
 fn call_pass(stdout: Stdout, session: Session) -> Session {
     let made = reorder_local::pass(session);
-    let answer = made.answer;
-    passed(stdout, answer);
+    passed(stdout, made.answer);
     made.session
 }
 
@@ -194,7 +185,7 @@ fn call_with_store(
     out: &mut [u8],
 ) -> Session {
     let length = store_length(row);
-    show::named(stdout, b" store", length as u64);
+    show::named(stdout, " store", length as u64);
     if store.len() < length {
         return r.session;
     }
@@ -202,25 +193,25 @@ fn call_with_store(
 }
 
 // How the line of an opening starts: what it is told, and its packet.
-fn head_opening(stdout: Stdout, name: &[u8], row: u64, r: Registers) {
+fn head_opening(stdout: Stdout, name: &str, row: u64, r: Registers) {
     show::text(stdout, name);
-    show::named(stdout, b" threshold", r.told_threshold as u64);
-    show::entry(stdout, r.told_word as u64);
+    show::named(stdout, " threshold", u64::from(r.told_threshold));
+    show::entry(stdout, u64::from(r.told_word));
     build::show(stdout, row, r);
 }
 
 // What a line starts with: the call, and what it is told.
 fn head(stdout: Stdout, row: u64, r: Registers) {
     match cases::call_of(row) {
-        Call::Open => head_opening(stdout, b"open", row, r),
-        Call::OpenOr => head_opening(stdout, b"open_or", row, r),
+        Call::Open => head_opening(stdout, "open", row, r),
+        Call::OpenOr => head_opening(stdout, "open_or", row, r),
         Call::Offer => {
-            show::text(stdout, b"offer");
+            show::text(stdout, "offer");
             build::show(stdout, row, r);
         }
-        Call::Serve => show::text(stdout, b"serve"),
-        Call::Drain => show::named(stdout, b"drain budget", cases::number(row) as u64),
-        Call::Pass => show::text(stdout, b"pass"),
+        Call::Serve => show::text(stdout, "serve"),
+        Call::Drain => show::named(stdout, "drain budget", u64::from(cases::number(row))),
+        Call::Pass => show::text(stdout, "pass"),
         _ => {}
     }
 }
@@ -228,9 +219,9 @@ fn head(stdout: Stdout, row: u64, r: Registers) {
 // What it ends with: the session, and digests of the whole store and output.
 fn tail(stdout: Stdout, session: Session, store: &[u8], out: &[u8]) {
     show::session(stdout, session);
-    show::named(stdout, b", bytes", show::digest(store));
+    show::named(stdout, ", bytes", show::digest(store));
     show::entry(stdout, show::digest(out));
-    show::text(stdout, b"\n");
+    show::text(stdout, "\n");
 }
 
 // A call, one line of it, and the session that it leaves.
@@ -242,7 +233,8 @@ pub(crate) fn call(
     out: &mut [u8],
 ) -> Session {
     head(stdout, row, r);
-    blank(out);
+    // What the output has before a call.
+    out.fill(165);
     let after = call_with_store(stdout, row, r, store, out);
     tail(stdout, after, store, out);
     after

@@ -1,6 +1,7 @@
 // The parts of a row. A row is a number, the sum of parts named here: a call with its packet and its buffers, or a change of what the next
 // calls are given. So OFFER + 9 * P + 3600 offers the packet of position 9 with its clock 3,600 seconds late, and
-// OFFER - 1 * P + TYPE + SUM offers the one before the base packet, with a wrong type and a wrong sum.
+// OFFER - 1 * P + TYPE + SUM offers the one before the base packet, with a wrong type and a wrong sum. Rows of structs would be no plainer: a sum names
+// only the parts that a row has.
 
 pub const CALL: u64 = 1_000_000_000_000_000_000;
 

@@ -20,10 +20,8 @@ use std::io::Stdout;
 // The rows of a table, the first of which starts a history.
 fn run_all(stdout: Stdout, table: &[u64], store: &mut [u8], out: &mut [u8]) {
     let mut r = registers::fresh();
-    let mut i = 0;
-    while i < table.len() {
-        r = rows::run(stdout, table[i], r, store, out);
-        i = i + 1;
+    for row in table {
+        r = rows::run(stdout, *row, r, store, out);
     }
 }
 
@@ -54,12 +52,12 @@ fn main(rt: HostRuntime) {
     let mut out = [0; 34561];
     show::text(
         stdout,
-        b"threshold and sum word; packet: count, coarse time, bytes, damage\n",
+        "threshold and sum word; packet: count, coarse time, bytes, damage\n",
     );
     show::text(
         stdout,
-        b"session: anchor count, anchor time, sum word, threshold, next, marks\n",
+        "session: anchor count, anchor time, sum word, threshold, next, marks\n",
     );
-    show::text(stdout, b"bytes: digests of the store and the output\n");
+    show::text(stdout, "bytes: digests of the store and the output\n");
     run_tables(stdout, &mut store, &mut out);
 }

@@ -16,23 +16,21 @@ pub struct Registers {
 
 // A session that holds nothing.
 fn session_of(anchor: Anchor, sum_word: u32, threshold: u32, next: u32) -> Session {
-    let window = Window {
-        start: next,
-        marks: 0,
-    };
     Session {
         anchor,
         sum_word,
         threshold,
-        window,
+        window: Window {
+            start: next,
+            marks: 0,
+        },
     }
 }
 
 // What a history starts with.
 pub(crate) fn fresh() -> Registers {
-    let session = session_of(Anchor { count: 0, time: 0 }, 0, 0, 0);
     Registers {
-        session,
+        session: Session::default(),
         base_count: 16_380,
         base_time: 1_000_000,
         stored: 70,
@@ -87,11 +85,11 @@ pub(crate) fn stored(r: Registers) -> usize {
 
 // The count of a row's packet: -1,000,000 is 15,808 modulo 16,384.
 pub(crate) fn count(row: u64, r: Registers) -> u64 {
-    (r.base_count as u64 + row / cases::P % 10_000_000 + 15_808) % 16_384
+    (u64::from(r.base_count) + row / cases::P % 10_000_000 + 15_808) % 16_384
 }
 
 // Its clock, modulo 2 to the 32.
 pub(crate) fn time(row: u64, r: Registers) -> u64 {
     let moved = 14 * (row / cases::P % 10_000_000) + row % cases::P;
-    (r.base_time as u64 + moved + 4_294_967_296 - 19_000_000) % 4_294_967_296
+    (u64::from(r.base_time) + moved + 4_294_967_296 - 19_000_000) % 4_294_967_296
 }

@@ -6,16 +6,14 @@ use std::io::Stdout;
 
 // The store at the start of a history.
 fn fill(store: &mut [u8]) {
-    let mut k = 0;
-    while k < store.len() {
-        store[k] = ((31 * (k % 65536) + k % 65536 / 256) % 256) as u8;
-        k = k + 1;
+    for (k, byte) in store.iter_mut().enumerate() {
+        *byte = ((31 * (k % 65536) + k % 65536 / 256) % 256) as u8;
     }
 }
 
 fn start(stdout: Stdout, row: u64, store: &mut [u8]) -> Registers {
-    show::named(stdout, b"history", cases::number(row) as u64);
-    show::text(stdout, b"\n");
+    show::named(stdout, "history", u64::from(cases::number(row)));
+    show::text(stdout, "\n");
     fill(store);
     registers::fresh()
 }
@@ -35,12 +33,8 @@ fn call_row(
     store: &mut [u8],
     out: &mut [u8],
 ) -> Registers {
-    let n = cases::digit(row, cases::MORE) % 10 + 1;
-    let mut k = 0;
-    while k < n {
-        let after = calls::call(stdout, again(row, k), r, store, out);
-        r.session = after;
-        k = k + 1;
+    for k in 0..=cases::digit(row, cases::MORE) % 10 {
+        r.session = calls::call(stdout, again(row, k), r, store, out);
     }
     r
 }

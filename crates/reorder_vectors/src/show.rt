@@ -2,31 +2,33 @@
 use reorder_session::Session;
 use std::io::Stdout;
 
-pub(crate) fn text(stdout: Stdout, bytes: &[u8]) {
-    let _ = stdout.write_all(bytes);
+pub(crate) fn text(stdout: Stdout, text: &str) {
+    let _ = stdout.write_all(text.as_bytes());
 }
 
 // A space and a number.
 pub(crate) fn entry(stdout: Stdout, n: u64) {
-    text(stdout, b" ");
+    text(stdout, " ");
     let _ = stdout.print(n);
 }
 
 // A name and a number.
-pub(crate) fn named(stdout: Stdout, name: &[u8], n: u64) {
+pub(crate) fn named(stdout: Stdout, name: &str, n: u64) {
     text(stdout, name);
     entry(stdout, n);
 }
 
 pub(crate) fn session(stdout: Stdout, s: Session) {
-    let anchor = s.anchor;
-    let window = s.window;
-    named(stdout, b", session", anchor.count as u64);
-    entry(stdout, anchor.time as u64);
-    entry(stdout, s.sum_word as u64);
-    entry(stdout, s.threshold as u64);
-    entry(stdout, window.start as u64);
-    entry(stdout, window.marks as u64);
+    named(stdout, ", session", u64::from(s.anchor.count));
+    for n in [
+        s.anchor.time,
+        s.sum_word,
+        s.threshold,
+        s.window.start,
+        s.window.marks,
+    ] {
+        entry(stdout, u64::from(n));
+    }
 }
 
 // A digest taken on by one more number.
@@ -36,11 +38,7 @@ pub(crate) fn digested(digest: u64, number: u64) -> u64 {
 
 // A digest that is easy to work out again: it starts at 1, and each byte in turn makes (257 × digest + byte) mod 4,294,967,291 of it.
 pub(crate) fn digest(bytes: &[u8]) -> u64 {
-    let mut made = 1;
-    let mut k = 0;
-    while k < bytes.len() {
-        made = digested(made, octets::u8_at(bytes, k) as u64);
-        k = k + 1;
-    }
-    made
+    bytes
+        .iter()
+        .fold(1, |made, byte| digested(made, u64::from(*byte)))
 }

@@ -1,9 +1,0 @@
--- At most 32 descriptions are passed.
-use Rattle.std.proofs.Common.{◌-◌, ◌≤◌}
-use Rattle.reorder_vectors.proofs.calls.described.Given as goal
-
-abbrev pub invariant-loop-k : goal.invariant-loop-k
-invariant-loop-k l = l.k ≤ 32
-
-abbrev pub decreases-loop-k : goal.decreases-loop-k
-decreases-loop-k l = 32 - l.k

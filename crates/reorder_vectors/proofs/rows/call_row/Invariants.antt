@@ -1,9 +1,0 @@
--- At most all calls are made.
-use Rattle.std.proofs.Common.{◌-◌, ◌≤◌}
-use Rattle.reorder_vectors.proofs.rows.call_row.Given as goal
-
-abbrev pub invariant-loop-k : goal.invariant-loop-k
-invariant-loop-k l = l.k ≤ l.n
-
-abbrev pub decreases-loop-k : goal.decreases-loop-k
-decreases-loop-k l = l.n - l.k
