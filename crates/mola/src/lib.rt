@@ -17,11 +17,10 @@ ghost use Rattle.pedr_block_c.specs.Numbers.{block_of_numbers};
 ghost use Rattle.pedr_write_refusal.specs.Refusal as pedr_write_refusal;
 ghost use Rattle.pedr_writer.specs.Write as pedr_writer;
 ghost use Rattle.reorder_c.specs.Calls.{OpensAs, OffersAs, ServesAs, DrainsAs, PassesAs};
-ghost use Rattle.mola.specs.Read.{no_fields, as_read};
+ghost use Rattle.mola.specs.Read.{as_read};
 
-use packet::{PacketAnswer, PacketArrays, PacketFields};
+use packet::{PacketArrays, PacketFields};
 use packet_layout::{BINS, READINGS, TEMPERATURES};
-use packet_writer::PacketWritten;
 use pedr_block_c::BlockNumbers;
 use pedr_block_runs::BlockRuns;
 use pedr_c::{ArrayNumbers, RecordNumbers};
@@ -32,7 +31,7 @@ use reorder_session::Session;
 
 // A packet's refusal number and zeros; or 0 and its fields and arrays.
 #[repr(C)]
-#[derive(Clone, Copy)]
+#[derive(Clone, Copy, Default)]
 pub struct FieldsAnswer {
     pub refusal: u32,
     pub fields: PacketFields,
@@ -43,49 +42,22 @@ pub struct FieldsAnswer {
 pub fn mola_check_packet(packet: &[u8], sum_word: usize) -> u8
     ensures { result ≡ read_refusal packet.now sum_word }
 {
-    packet_check::packet_refusal(packet, sum_word)
-}
-
-// Fields of all zeros.
-fn no_fields() -> PacketFields
-    ensures { result ≡ no_fields }
-{
-    PacketFields {
-        error_status: 0,
-        count: 0,
-        coarse_time: 0,
-        fine_time: 0,
-        status_register: 0,
-        software_version: 0,
-        ram_flag_word: 0,
-        status_word_1: 0,
-        status_word_2: 0,
-        software_checksum: 0,
-        commands_received: 0,
-        command_errors: 0,
-        transmitter_threshold: 0,
-        tracking_status: 0,
-        hstart: 0,
-    }
+    refusal::number_of(packet_check::check_packet(packet, sum_word))
 }
 
 // The refusal number of a packet whose sum stands at word sum_word, or 0, and its fields and arrays.
 pub fn mola_read_packet(packet: &[u8], sum_word: usize) -> FieldsAnswer
     ensures { result ≡ as_read (read_due packet.now sum_word) (read_arrays packet.now sum_word) }
 {
-    let read = packet::read_packet(packet, sum_word);
-    let answer = read.answer;
-    let arrays = read.arrays;
-    match answer {
-        PacketAnswer::Refused(n) => FieldsAnswer {
-            refusal: n as u32,
-            fields: no_fields(),
-            arrays,
-        },
-        PacketAnswer::Accepted(fields) => FieldsAnswer {
+    match packet::read_packet(packet, sum_word) {
+        Ok(read) => FieldsAnswer {
             refusal: 0,
-            fields,
-            arrays,
+            fields: read.fields,
+            arrays: read.arrays,
+        },
+        Err(refusal) => FieldsAnswer {
+            refusal: u8::from(refusal) as u32,
+            ..FieldsAnswer::default()
         },
     }
 }
@@ -138,18 +110,14 @@ pub fn mola_write_packet(
         readings: *readings,
         bins: *bins,
     };
-    let written = packet_writer::write_packet(fields, arrays, carried, sum_word, out);
-    match written {
-        PacketWritten::Refused(n) => n,
-        PacketWritten::Written => 0,
-    }
+    refusal::number_of(packet_writer::write_packet(fields, arrays, carried, sum_word, out))
 }
 
 // The refusal number of a PEDR record, or 0.
 pub fn mola_check_record(bytes: &[u8]) -> u8
     ensures { result ≡ record_refusal bytes.now }
 {
-    pedr_check::record_refusal(bytes)
+    refusal::number_of(pedr_check::check_record(bytes))
 }
 
 // Reads a PEDR record: its refusal number, or 0, and what it holds.

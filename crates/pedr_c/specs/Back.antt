@@ -1,6 +1,6 @@
 -- The arrays that numbers stand for: each class is that of its number.
 use Rattle.std.specs.Prelude.{map}
-use Rattle.pedr_arrays.specs.Arrays.{shot_class}
+use Rattle.pedr_flags.specs.Class.{class_of}
 use Rattle.pedr_arrays.specs.declared.ShotArrays.{ShotArrays}
 use Rattle.pedr_arrays.specs.declared.RecordArrays.{RecordArrays}
 use Rattle.pedr_c.specs.declared.ShotNumbers.{ShotNumbers}
@@ -16,7 +16,7 @@ shots_of_numbers n =
       pulse_width = n.pulse_width;
       optical_width = n.optical_width;
       laser_power = n.laser_power;
-      class = map shot_class n.class_number;
+      class = map class_of n.class_number;
       encoder = n.encoder;
       failures = n.failures;
     }

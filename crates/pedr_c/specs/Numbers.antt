@@ -1,7 +1,7 @@
 -- The PEDR record's answers in structs of numbers, for callers in languages that have no such enums. A class is its number of document 01.
 use Rattle.std.specs.Prelude.{ℕ, List, map}
 use Rattle.octets.specs.Refusal.{Said, refused, answered, refusal_in}
-use Rattle.pedr_arrays.specs.Arrays.{shot_class_number}
+use Rattle.pedr_arrays.specs.Arrays.{class_number}
 use Rattle.pedr_arrays.specs.declared.ShotArrays.{ShotArrays}
 use Rattle.pedr_arrays.specs.declared.RecordArrays.{RecordArrays}
 use Rattle.pedr_fields.specs.declared.RecordFields.{RecordFields}
@@ -24,7 +24,7 @@ shot_numbers a =
       pulse_width = a.pulse_width;
       optical_width = a.optical_width;
       laser_power = a.laser_power;
-      class_number = map shot_class_number a.class;
+      class_number = map class_number a.class;
       encoder = a.encoder;
       failures = a.failures;
     }

@@ -2,17 +2,18 @@
 #![tactic(auto)]
 
 ghost use Rattle.std.specs.Prelude.{◌≡◌, map};
-ghost use Rattle.pedr_arrays.specs.Arrays.{shot_class, classes_of, arrays_of, shot_class_number};
+ghost use Rattle.pedr_flags.specs.Class.{class_of, class_number};
+ghost use Rattle.pedr_arrays.specs.Arrays.{classes_of, arrays_of};
 ghost use Rattle.pedr.specs.Read.{read_due, read_arrays, read_runs, read_carried, read_uninterpreted};
 ghost use Rattle.pedr_c.specs.Refused.{no_position, no_descriptor, no_receiver, no_fields, no_numbers, refused_record};
 ghost use Rattle.pedr_c.specs.Numbers.{shot_numbers, array_numbers, record_numbers};
 ghost use Rattle.pedr_c.specs.Back.{shots_of_numbers, arrays_of_numbers};
 
-use pedr_arrays::{ChannelArrays, RecordArrays, ShotArrays, ShotClass};
+use pedr_arrays::{ChannelArrays, RecordArrays, ShotArrays};
 use pedr_block_c::BlockNumbers;
 use pedr_block_runs::BlockRuns;
-use pedr_fields::{FrameTime, OrbitPosition, PacketLink, Pointing, Ranges, Receiver, RecordFields};
-use pedr_flags::{Class, Descriptor, Encoder, Quality, ShotFailures};
+use pedr_fields::RecordFields;
+use pedr_flags::{Class, Encoder, ShotFailures};
 use pedr_layout::{CARRIED_MOST, CLASS_AT, SHOTS, UNINTERPRETED};
 
 // The columns of 20 shots, a class by its number; shot s stands at index s - 1.
@@ -56,16 +57,14 @@ pub struct RecordNumbers {
 
 // The numbers of the classes: their column, as it stands.
 fn read_class_numbers(bytes: &[u8]) -> [u16; SHOTS]
-    ensures { result ≡ map shot_class_number (classes_of bytes.now) }
+    ensures { result ≡ map class_number (classes_of bytes.now) }
 {
-    let mut numbers = [0u16; SHOTS];
-    octets_runs::read_u16s(bytes, CLASS_AT, &mut numbers);
-    numbers
+    octets_runs::run(bytes, CLASS_AT)
 }
 
 // The columns of 20 shots, with the numbers of their classes.
 fn shot_numbers(arrays: ShotArrays, class_number: [u16; SHOTS]) -> ShotNumbers
-    requires { class_number ≡ map shot_class_number arrays.class }
+    requires { class_number ≡ map class_number arrays.class }
     ensures { result ≡ shot_numbers arrays }
 {
     let radius = arrays.radius;
@@ -139,9 +138,8 @@ pub fn read_record(bytes: &[u8]) -> RecordNumbers
     ensures { result ≡ record_numbers (read_due bytes.now) (read_arrays bytes.now) (read_runs bytes.now)
         (read_carried bytes.now) (read_uninterpreted bytes.now) }
 {
-    let n = pedr_check::record_refusal(bytes);
-    if n != 0 {
-        return refused_record(n as u32);
+    if let Err(refusal) = pedr_check::check_record(bytes) {
+        return refused_record(u8::from(refusal) as u32);
     }
     let uninterpreted = pedr_arrays::read_uninterpreted(bytes);
     let carried = pedr_block_runs::read_carried(bytes);
@@ -160,19 +158,10 @@ pub fn read_record(bytes: &[u8]) -> RecordNumbers
     }
 }
 
-fn classes_of(numbers: [u16; SHOTS]) -> [ShotClass; SHOTS]
-    ensures { result ≡ map shot_class numbers }
+fn classes_of(numbers: [u16; SHOTS]) -> [Class; SHOTS]
+    ensures { result ≡ map class_of numbers }
 {
-    let mut classes = [ShotClass {
-        class: Class::NoTrigger,
-    }; SHOTS];
-    let mut k = 0;
-    while k < SHOTS {
-        let class = pedr_flags::class_of(numbers[k]);
-        classes[k] = ShotClass { class };
-        k = k + 1;
-    }
-    classes
+    numbers.map(Class::from)
 }
 
 fn shots_of(numbers: ShotNumbers) -> ShotArrays
