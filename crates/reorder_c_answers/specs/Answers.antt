@@ -2,7 +2,8 @@
 -- said, and how it is read back.
 use Rattle.std.specs.Prelude.{ℕ, zero, suc, ◌≡◌, List, [], ◌∷◌}
 use Rattle.octets.specs.Refusal.{Said, refused, answered, say}
-use Rattle.reorder_rules.specs.Turn.{Turn, packet, missing}
+use Rattle.reorder_rules.specs.declared.Turn.{Turn}
+use Rattle.reorder_rules.specs.declared.Turn.TheVariants.{Packet, Missing}
 use Rattle.reorder_turn.specs.Described.{described, described_all}
 use Rattle.reorder_serve.specs.Report.{described_by, counted}
 use Rattle.reorder_c_answers.specs.Listed.{listed}
@@ -12,19 +13,25 @@ use Rattle.reorder_c_answers.specs.declared.Count.{Count}
 -- ---- what is said, as numbers
 
 -- a refusal is its number and zeros; an answer is 0, and its kind and position as a drain describes them: 1 a packet, 2 a missing position, 0 Waiting
+abbrev pub refused_answer : ℕ → Answer
+refused_answer n = record { refusal = n; kind = 0; position = 0 }
+
+abbrev pub turn_answer : Turn → Answer
+turn_answer t = record { refusal = 0; kind = (described t).kind; position = (described t).position }
+
 abbrev pub as_answer : {A : Type 0} → (A → Turn) → Said A → Answer
-as_answer turn (refused n) = record { refusal = n; kind = 0; position = 0 }
-as_answer turn (answered a) = record { refusal = 0; kind = (described (turn a)).kind; position = (described (turn a)).position }
+as_answer turn (refused n) = refused_answer n
+as_answer turn (answered a) = turn_answer (turn a)
 
 -- of an opening and an offer, which hold a packet; of a serve; and of a pass, which calls a position missing
 abbrev pub held_answer : Said ℕ → Answer
-held_answer = as_answer packet
+held_answer = as_answer Packet
 
 abbrev pub served_answer : Said Turn → Answer
 served_answer = as_answer (λ t. t)
 
 abbrev pub passed_answer : Said ℕ → Answer
-passed_answer = as_answer missing
+passed_answer = as_answer Missing
 
 -- of a drain: a refusal is its number and 0; an answer is 0 and the count
 abbrev pub drained_count : Said ℕ → Count

@@ -3,22 +3,17 @@
 #![tactic(auto)]
 
 ghost use Rattle.std.specs.Prelude.{◌≡◌};
-ghost use Rattle.reorder_admission.specs.Answer.{offer_said};
-ghost use Rattle.reorder_turn.specs.Answer.{serve_said};
-ghost use Rattle.reorder_serve.specs.Report.{drain_said};
-ghost use Rattle.reorder_pass.specs.Answer.{pass_said};
+ghost use Rattle.refusal.specs.Number.{number, said};
 ghost use Rattle.reorder_c_answers.specs.Listed.{listed};
-ghost use Rattle.reorder_c_answers.specs.Answers.{held_answer, served_answer, passed_answer, drained_count};
+ghost use Rattle.reorder_c_answers.specs.Answers.{refused_answer, turn_answer, held_answer, served_answer, passed_answer, drained_count};
 
-use reorder_admission::OfferAnswer;
-use reorder_pass::PassAnswer;
-use reorder_rules::MOST_ANSWERS;
-use reorder_serve::DrainAnswer;
-use reorder_turn::{Description, ServeAnswer};
+use refusal::Refusal;
+use reorder_rules::{MOST_ANSWERS, Turn};
+use reorder_turn::Description;
 
 // A refusal's number and zeros; or 0, a kind (0 Waiting, 1 a packet, 2 a missing position) and a position.
 #[repr(C)]
-#[derive(Clone, Copy)]
+#[derive(Clone, Copy, Default)]
 pub struct Answer {
     pub refusal: u32,
     pub kind: u32,
@@ -27,79 +22,76 @@ pub struct Answer {
 
 // A refusal's number and 0; or 0 and how many answers there were.
 #[repr(C)]
-#[derive(Clone, Copy)]
+#[derive(Clone, Copy, Default)]
 pub struct Count {
     pub refusal: u32,
     pub count: u32,
 }
 
-// The numbers of what an opening or an offer answers.
-pub fn held_answer(answer: OfferAnswer) -> Answer
-    ensures { result ≡ held_answer (offer_said answer) }
-{
-    match answer {
-        OfferAnswer::Refused(n) => Answer {
-            refusal: n as u32,
-            kind: 0,
-            position: 0,
-        },
-        OfferAnswer::Held(p) => Answer {
-            refusal: 0,
-            kind: 1,
-            position: p,
-        },
+impl From<Refusal> for Answer {
+    ghost from_gives = { λ refusal answer. answer ≡ refused_answer (number refusal) };
+
+    fn from(refusal: Refusal) -> Answer {
+        Answer {
+            refusal: u8::from(refusal) as u32,
+            ..Answer::default()
+        }
     }
 }
 
-// The numbers of what a serve answers: but for a refusal, its description.
-pub fn served_answer(answer: ServeAnswer) -> Answer
-    ensures { result ≡ served_answer (serve_said answer) }
-{
-    if let ServeAnswer::Refused(n) = answer {
-        return Answer {
-            refusal: n as u32,
-            kind: 0,
-            position: 0,
-        };
-    }
-    let description = reorder_turn::describe(answer);
-    Answer {
-        refusal: 0,
-        kind: description.kind,
-        position: description.position,
+// An answer of serving, by its description.
+impl From<Turn> for Answer {
+    ghost from_gives = { λ turn answer. answer ≡ turn_answer turn };
+
+    fn from(turn: Turn) -> Answer {
+        let description = Description::from(turn);
+        Answer {
+            refusal: 0,
+            kind: description.kind,
+            position: description.position,
+        }
     }
 }
 
-// The numbers of what a pass answers.
-pub fn passed_answer(answer: PassAnswer) -> Answer
-    ensures { result ≡ passed_answer (pass_said answer) }
+// The numbers of what a serve answers.
+pub fn served_answer(answer: Result<Turn, Refusal>) -> Answer
+    ensures { result ≡ served_answer (said answer) }
 {
     match answer {
-        PassAnswer::Refused(n) => Answer {
-            refusal: n as u32,
-            kind: 0,
-            position: 0,
-        },
-        PassAnswer::Missing(p) => Answer {
-            refusal: 0,
-            kind: 2,
-            position: p,
-        },
+        Ok(turn) => Answer::from(turn),
+        Err(refusal) => Answer::from(refusal),
+    }
+}
+
+// The numbers of what an opening or an offer answers: a packet, at the position that it is held at.
+pub fn held_answer(answer: Result<u32, Refusal>) -> Answer
+    ensures { result ≡ held_answer (said answer) }
+{
+    match answer {
+        Ok(position) => Answer::from(Turn::Packet(position)),
+        Err(refusal) => Answer::from(refusal),
+    }
+}
+
+// The numbers of what a pass answers: that a position is missing.
+pub fn passed_answer(answer: Result<u32, Refusal>) -> Answer
+    ensures { result ≡ passed_answer (said answer) }
+{
+    match answer {
+        Ok(position) => Answer::from(Turn::Missing(position)),
+        Err(refusal) => Answer::from(refusal),
     }
 }
 
 // The numbers of what a drain answers.
-pub fn drained_count(answer: DrainAnswer) -> Count
-    ensures { result ≡ drained_count (drain_said answer) }
+pub fn drained_count(answer: Result<u32, Refusal>) -> Count
+    ensures { result ≡ drained_count (said answer) }
 {
     match answer {
-        DrainAnswer::Refused(n) => Count {
-            refusal: n as u32,
+        Ok(count) => Count { refusal: 0, count },
+        Err(refusal) => Count {
+            refusal: u8::from(refusal) as u32,
             count: 0,
-        },
-        DrainAnswer::Count(k) => Count {
-            refusal: 0,
-            count: k,
         },
     }
 }
@@ -115,11 +107,8 @@ pub fn put_descriptions(
     ensures { out.new ≡ listed descriptions }
 {
     let numbers = &mut out[..];
-    let mut i = 0;
-    while i < MOST_ANSWERS {
-        let description = descriptions[i];
+    for (i, description) in descriptions.iter().enumerate() {
         numbers[2 * i] = description.kind;
         numbers[2 * i + 1] = description.position;
-        i = i + 1;
     }
 }
