@@ -19,7 +19,7 @@ ghost use Rattle.pedr_writer.specs.Write as pedr_writer;
 ghost use Rattle.reorder_c.specs.Calls.{OpensAs, OffersAs, ServesAs, DrainsAs, PassesAs};
 ghost use Rattle.mola.specs.Read.{as_read};
 
-use packet::{PacketArrays, PacketFields};
+use packet::{Packet, PacketArrays, PacketFields};
 use packet_layout::{BINS, READINGS, TEMPERATURES};
 use pedr_block_c::BlockNumbers;
 use pedr_block_runs::BlockRuns;
@@ -105,12 +105,15 @@ pub fn mola_write_packet(
         (record { temperatures = temperatures.now; readings = readings.now; bins = bins.now })
         carried.now sum_word out.old) }
 {
-    let arrays = PacketArrays {
-        temperatures: *temperatures,
-        readings: *readings,
-        bins: *bins,
+    let packet = Packet {
+        fields,
+        arrays: PacketArrays {
+            temperatures: *temperatures,
+            readings: *readings,
+            bins: *bins,
+        },
     };
-    refusal::number_of(packet_writer::write_packet(fields, arrays, carried, sum_word, out))
+    refusal::number_of(packet_writer::write_packet(&packet, carried, sum_word, out))
 }
 
 // The refusal number of a PEDR record, or 0.
