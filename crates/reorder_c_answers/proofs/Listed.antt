@@ -1,7 +1,7 @@
 -- Descriptions stored as numbers, one after the other.
-use Prim.Native.Nat.{ℕ, ◌+◌, ◌*◌, ◌<◌, ◌≤◌}
+use Prim.Native.Nat.{ℕ, zero, suc, ◌+◌, ◌*◌, ◌<◌, ◌≤◌}
 use mathlib.Core.Path.{◌≡◌, refl, sym, ap, ◌∙◌}
-use mathlib.Core.List.{List, [], ◌∷◌, ◌++◌, append_assoc}
+use mathlib.Core.List.{List, [], ◌∷◌, ◌++◌, map, append_assoc}
 use native.Mathlib.Numerals.{add-one}
 use native.Mathlib.Omega.{arith}
 use lib.ListN.{length, get_or, take, length-append}
@@ -9,8 +9,15 @@ use lib.Seq.{take-suc, take_all, length-take-le}
 use Rattle.octets.specs.Bytes.{put}
 use Rattle.octets.proofs.Store.{put_then, put_nothing, put_length, put_whole}
 use Rattle.reorder_turn.specs.declared.Description.{Description}
-use Rattle.reorder_turn.specs.Described.{no_description}
+use Rattle.reorder_rules.specs.declared.Turn.{Turn}
+use Rattle.reorder_turn.specs.Described.{no_description, described}
 use Rattle.reorder_c_answers.specs.Listed.{listed}
+
+-- the description of the answer at an index within the list
+pub described_at : (ts : List Turn) (i : ℕ) (t : Turn) → i < length ts → get_or (map described ts) i no_description ≡ described (get_or ts i t)
+described_at [] i t h = absurd (omega (arith, h))
+described_at (u ∷ ts) zero t h = refl
+described_at (u ∷ ts) (suc i) t h = described_at ts i t (omega (arith, h))
 
 pub listed_append : (a b : List Description) → listed (a ++ b) ≡ listed a ++ listed b
 listed_append [] b = refl

@@ -6,11 +6,13 @@ use native.Mathlib.Omega.{arith}
 use lib.ListN.{length, replicate}
 use Rattle.octets.specs.Refusal.{Said, refused, answered, say}
 use Rattle.reorder_rules.specs.Outcome.{Outcome, ComesTo}
-use Rattle.reorder_rules.specs.Turn.{Turn, packet, missing, waiting}
+use Rattle.reorder_rules.specs.declared.Turn.{Turn}
+use Rattle.reorder_rules.specs.declared.Turn.TheVariants.{Packet, Missing, Waiting}
 use Rattle.reorder_rules.proofs.Said.{comes_by}
 use Rattle.reorder_rules.proofs.Numbered.{Numbered}
 use Rattle.reorder_turn.specs.Described.{no_description, described, described_all}
-use Rattle.reorder_serve.specs.Report.{counted, descriptions}
+use Rattle.reorder_turn.proofs.Turns.{described_places}
+use Rattle.reorder_serve.specs.Report.{counted, places}
 use Rattle.reorder_c_answers.specs.Listed.{listed}
 use Rattle.reorder_c_answers.proofs.Listed.{listed_append}
 use Rattle.reorder_c_answers.specs.declared.Count.{Count}
@@ -29,9 +31,9 @@ position_said_lem turn at (refused n) h = say_refused n 0 (h n refl)
 position_said_lem turn at (answered p) h = ap answered (at p)
 
 turn_by : (t : Turn) → turn_of (described t).kind (described t).position ≡ t
-turn_by (packet p) = refl
-turn_by (missing p) = refl
-turn_by waiting = refl
+turn_by (Packet p) = refl
+turn_by (Missing p) = refl
+turn_by Waiting = refl
 
 turn_said_lem : (x : Said Turn) → Numbered x → turn_said (served_answer x) ≡ x
 unfolding say
@@ -48,11 +50,11 @@ module _ {S A R : Type 0} (read : R → Said A) (form : Said A → R) (reads : (
 
 pub held_told : {S : Type 0} {o : Outcome S ℕ} {s t : S} {b c : List ℕ} (x : Said ℕ) (r : _) → Numbered o.said → ComesTo o s b x t c → r ≡ held_answer x
     → ComesTo o s b (position_said r) t c × (r ≡ held_answer (position_said r))
-held_told = told position_said held_answer (position_said_lem packet (λ p. refl))
+held_told = told position_said held_answer (position_said_lem Packet (λ p. refl))
 
 pub passed_told : {S : Type 0} {o : Outcome S ℕ} {s t : S} {b c : List ℕ} (x : Said ℕ) (r : _) → Numbered o.said → ComesTo o s b x t c → r ≡ passed_answer x
     → ComesTo o s b (position_said r) t c × (r ≡ passed_answer (position_said r))
-passed_told = told position_said passed_answer (position_said_lem missing (λ p. refl))
+passed_told = told position_said passed_answer (position_said_lem Missing (λ p. refl))
 
 pub served_told : {S : Type 0} {o : Outcome S Turn} {s t : S} {b c : List ℕ} (x : Said Turn) (r : _) → Numbered o.said → ComesTo o s b x t c → r ≡ served_answer x
     → ComesTo o s b (turn_said r) t c × (r ≡ served_answer (turn_said r))
@@ -79,9 +81,9 @@ pub numbers_stay : (x : Said (List Turn)) (d : List ℕ) (n : ℕ) → counted x
 numbers_stay (refused m) d n e = refl
 numbers_stay (answered ts) d n e = let z : ◌≡◌ {A = ℕ} 0 1 = cc in absurd (omega arith)
 
-pub numbers_listed : (x : Said (List Turn)) (d : List ℕ) (k : ℕ) → counted x ≡ answered k → listed (descriptions x) ≡ tabled x d
+pub numbers_listed : (x : Said (List Turn)) (d : List ℕ) (k : ℕ) → counted x ≡ answered k → listed (map described (places x)) ≡ tabled x d
 numbers_listed (refused n) d k e = let z : ◌≡◌ {A = ℕ} 0 1 = cc in absurd (omega arith)
-numbers_listed (answered ts) d k e = refl
+numbers_listed (answered ts) d k e = ap listed (described_places ts)
 
 -- what holds of what is said holds of what the numbers stand for
 pub drain_told : (P : Said (List Turn) → Type 0) (x : Said (List Turn)) (r : Count) (d e : List ℕ) → Numbered x → P x → Tells r d e x

@@ -4,8 +4,8 @@ use Rattle.std.specs.Prelude.{ℕ, zero, suc, ◌≡◌, List, [], ◌∷◌}
 use Rattle.octets.specs.Refusal.{Said, refused, answered, say}
 use Rattle.reorder_rules.specs.declared.Turn.{Turn}
 use Rattle.reorder_rules.specs.declared.Turn.TheVariants.{Packet, Missing}
-use Rattle.reorder_turn.specs.Described.{described, described_all}
-use Rattle.reorder_serve.specs.Report.{described_by, counted}
+use Rattle.reorder_turn.specs.Described.{described, described_by, described_all}
+use Rattle.reorder_serve.specs.Report.{counted}
 use Rattle.reorder_c_answers.specs.Listed.{listed}
 use Rattle.reorder_c_answers.specs.declared.Answer.{Answer}
 use Rattle.reorder_c_answers.specs.declared.Count.{Count}

@@ -1,28 +1,34 @@
 -- Two numbers a turn; a store is a put of one number, and all together are the 64.
-use mathlib.Core.Path.{◌≡◌, ◌∙◌}
+use Prim.Native.Nat.{◌+◌, ◌*◌}
+use mathlib.Core.Path.{◌≡◌, sym, ◌∙◌, subst}
+use mathlib.Core.List.{[], ◌∷◌, map}
 use native.Mathlib.Omega.{arith}
-use lib.ListN.{length, length-set}
+use borrow.Author.Rules.{rules}
+use lib.ListN.{length, get_or, length-map}
 use Rattle.octets.specs.Bytes.{put}
-use Rattle.reorder_c_answers.proofs.Listed.{stored_none, stored_more, stored_length, stored_all}
+use Rattle.reorder_turn.specs.declared.Description.{Description}
+use Rattle.reorder_turn.specs.Described.{no_description, described}
+use Rattle.reorder_c_answers.proofs.Listed.{Stored, described_at, stored_none, stored_more, stored_all}
 use Rattle.reorder_c_answers.proofs.put_descriptions.Goals as goal
 
-room : (b : goal.After-description-1) → length b.loop-i.numbers ≡ 64
-room b = stored_length b.args.descriptions _ _ b.loop-i.i b.loop-i.invariant ∙ b.numbers-1.given.0.1
-
 pub loop-i-init : goal.loop-i-init
-loop-i-init c = stored_none c.args.descriptions _
-
-pub bounds-numbers-i : goal.bounds-numbers-i
-bounds-numbers-i c = omega (arith, room c)
-
-pub bounds-numbers-i-in-loop-i : goal.bounds-numbers-i-in-loop-i
-bounds-numbers-i-in-loop-i c = simp length-set (omega (arith, room c))
+loop-i-init c = stored_none (map described c.args.turns) _
 
 pub loop-i-preserved : goal.loop-i-preserved
 unfolding put
 loop-i-preserved c =
-    stored_more c.args.descriptions _ c.loop-i.numbers c.loop-i.i c.loop-i-test.true (omega arith) c.loop-i.invariant
+    let ds = map described c.args.turns in
+    let l = c.loop-i in
+    let k : length c.args.turns ≡ 32 = search rules in
+    let n : length ds ≡ 32 = length-map c.args.turns described ∙ k in
+    let e : get_or ds l.i no_description ≡ c.from-description.result = described_at c.args.turns l.i _ (omega (arith, c.loop-i-test.true)) ∙ sym c.from-description.ensures in
+    subst (λ (d : Description). Stored ds c.args.out.now (put (put l.numbers (2 * l.i) (d.kind ∷ [])) (2 * l.i + 1) (d.position ∷ [])) (l.i + 1)) e
+    (stored_more ds _ l.numbers l.i (omega (arith, c.loop-i-test.true)) n l.invariant)
 
 pub returns : goal.returns
 returns c =
-    stored_all c.args.descriptions _ _ c.loop-i.i c.loop-i-test.false (omega arith) c.numbers-1.given.0.1 c.loop-i.invariant
+    let ds = map described c.args.turns in
+    let k : length c.args.turns ≡ 32 = search rules in
+    let n : length ds ≡ 32 = length-map c.args.turns described ∙ k in
+    let m : length c.args.out.now ≡ 64 = search rules in
+    stored_all ds _ c.loop-i.numbers c.loop-i.i (omega (arith, c.loop-i-test.false)) n m c.loop-i.invariant
