@@ -10,7 +10,8 @@ use Rattle.octets.specs.Refusal.{Said, say}
 use Rattle.reorder_session.specs.declared.Session.{Session}
 use Rattle.reorder_rules.specs.Outcome.{outcome}
 use Rattle.reorder_rules.proofs.Said.{outcome_cases}
-use Rattle.reorder_rules.specs.Turn.{Turn, packet, missing, waiting}
+use Rattle.reorder_rules.specs.declared.Turn.{Turn}
+use Rattle.reorder_rules.specs.declared.Turn.TheVariants.{Packet, Missing, Waiting}
 use Rattle.reorder_session.specs.Calls.{turn, turned, turns, turned_all, serve_refusal, drain_refusal, serve_of, drain_of, pass_refusal, pass_of}
 use Rattle.reorder_session.specs.Session.{with_window}
 
@@ -19,9 +20,9 @@ abbrev Windowed : Session → Session → Type 0
 Windowed s t = t ≡ with_window s t.window
 
 turned_windowed : (s : Session) (t : Turn) → Windowed s (turned s t)
-turned_windowed s (packet p) = refl
-turned_windowed s (missing p) = refl
-turned_windowed s waiting = refl
+turned_windowed s (Packet p) = refl
+turned_windowed s (Missing p) = refl
+turned_windowed s Waiting = refl
 
 turned_all_windowed : (s : Session) (ts : List Turn) → Windowed s (turned_all s ts)
 unfolding Turn-rules.turned_all

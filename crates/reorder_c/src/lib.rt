@@ -6,9 +6,8 @@ ghost use Rattle.reorder_c.specs.Calls.{OpensAs, OffersAs, ServesAs, DrainsAs, P
 
 use lent_record::Stepped;
 use reorder_c_answers::{Answer, Count, DESCRIPTION_NUMBERS};
-use reorder_rules::MOST_ANSWERS;
+use reorder_rules::{MOST_ANSWERS, Turn};
 use reorder_session::Session;
-use reorder_turn::Description;
 
 // Opens a session with this packet at position 0. A refused opening returns the session given.
 pub fn open(
@@ -62,13 +61,15 @@ fn drain_turns(
 {
     let drained = reorder_serve::drain(session, out, store, budget);
     let report = drained.answer;
-    if report.answer.is_ok() {
-        reorder_c_answers::put_descriptions(report.descriptions, descriptions);
-    }
-    Stepped {
+    let counted = Stepped {
         answer: reorder_c_answers::drained_count(report.answer),
         session: session.with_window(drained.session.window),
-    }
+    };
+    let Ok(_) = report.answer else {
+        return counted;
+    };
+    reorder_c_answers::put_descriptions(report.turns, descriptions);
+    counted
 }
 
 // The same, but that a drain that has nothing to serve stores its zeros at once, without the run.
@@ -84,10 +85,7 @@ pub fn drain(
 {
     let checked = reorder_turn::check_drain(session, store.len(), out.len(), budget);
     if checked.is_ok() && reorder_turn::waits(session) {
-        reorder_c_answers::put_descriptions(
-            [Description::default(); MOST_ANSWERS],
-            descriptions,
-        );
+        reorder_c_answers::put_descriptions([Turn::Waiting; MOST_ANSWERS], descriptions);
         return Stepped {
             answer: Count::default(),
             session,
