@@ -3,10 +3,10 @@
 
 ghost use Rattle.std.specs.Prelude.{◌≡◌};
 ghost use Rattle.pedr_shot.specs.Shot.{shot_due};
-ghost use Rattle.pedr_shot_c.specs.Shot.{no_shot, one_shot, shot_read};
+ghost use Rattle.pedr_shot_c.specs.Shot.{one_shot, shot_read};
 
 use pedr_flags::{Encoder, ShotFailures};
-use pedr_shot::{ShotAnswer, ShotFields};
+use pedr_shot::ShotFields;
 
 // A shot's value of each column of 20, its class by its number, whether it is good, and the tests that it failed.
 #[repr(C)]
@@ -27,36 +27,29 @@ pub struct OneShot {
 
 // A refusal number and zeros; or 0 and the shot.
 #[repr(C)]
-#[derive(Clone, Copy)]
+#[derive(Clone, Copy, Default)]
 pub struct ShotRead {
     pub refusal: u32,
     pub shot: OneShot,
 }
 
-fn no_shot() -> OneShot
-    ensures { result ≡ no_shot }
-{
-    OneShot::default()
-}
+impl From<ShotFields> for OneShot {
+    ghost from_gives = { λ fields shot. shot ≡ one_shot fields };
 
-fn one_shot(fields: ShotFields) -> OneShot
-    ensures { result ≡ one_shot fields }
-{
-    let class = fields.class;
-    let encoder = fields.encoder;
-    let failures = fields.failures;
-    OneShot {
-        radius: fields.radius,
-        energy: fields.energy,
-        reflectivity: fields.reflectivity,
-        trigger_channel: fields.trigger_channel,
-        pulse_width: fields.pulse_width,
-        optical_width: fields.optical_width,
-        laser_power: fields.laser_power,
-        class_number: pedr_flags::class_number(class),
-        encoder,
-        good: fields.good,
-        failures,
+    fn from(fields: ShotFields) -> OneShot {
+        OneShot {
+            radius: fields.radius,
+            energy: fields.energy,
+            reflectivity: fields.reflectivity,
+            trigger_channel: fields.trigger_channel,
+            pulse_width: fields.pulse_width,
+            optical_width: fields.optical_width,
+            laser_power: fields.laser_power,
+            class_number: u16::from(fields.class),
+            encoder: fields.encoder,
+            good: fields.good,
+            failures: fields.failures,
+        }
     }
 }
 
@@ -65,13 +58,13 @@ pub fn read_shot(bytes: &[u8], shot: usize) -> ShotRead
     ensures { result ≡ shot_read (shot_due bytes.now shot) }
 {
     match pedr_shot::read_shot(bytes, shot) {
-        ShotAnswer::Refused(n) => ShotRead {
-            refusal: n as u32,
-            shot: no_shot(),
-        },
-        ShotAnswer::Accepted(fields) => ShotRead {
+        Ok(fields) => ShotRead {
             refusal: 0,
-            shot: one_shot(fields),
+            shot: OneShot::from(fields),
+        },
+        Err(refusal) => ShotRead {
+            refusal: u8::from(refusal) as u32,
+            ..ShotRead::default()
         },
     }
 }
