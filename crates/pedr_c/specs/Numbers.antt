@@ -1,7 +1,7 @@
 -- The PEDR record's answers in structs of numbers, for callers in languages that have no such enums. A class is its number of document 01.
 use Rattle.std.specs.Prelude.{ℕ, List, map}
 use Rattle.octets.specs.Refusal.{Said, refused, answered, refusal_in}
-use Rattle.pedr_arrays.specs.Arrays.{class_number}
+use Rattle.pedr_flags.specs.Class.{class_number}
 use Rattle.pedr_arrays.specs.declared.ShotArrays.{ShotArrays}
 use Rattle.pedr_arrays.specs.declared.RecordArrays.{RecordArrays}
 use Rattle.pedr_fields.specs.declared.RecordFields.{RecordFields}

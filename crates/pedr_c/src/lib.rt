@@ -62,9 +62,9 @@ fn read_class_numbers(bytes: &[u8]) -> [u16; SHOTS]
     octets_runs::run(bytes, CLASS_AT)
 }
 
-// The columns of 20 shots, with the numbers of their classes.
-fn shot_numbers(arrays: ShotArrays, class_number: [u16; SHOTS]) -> ShotNumbers
-    requires { class_number ≡ map class_number arrays.class }
+// The columns of 20 shots, with the numbers of their classes. A field that is an array goes by a variable into a struct's literal, as the check asks.
+fn shot_numbers(arrays: ShotArrays, numbers: [u16; SHOTS]) -> ShotNumbers
+    requires { numbers ≡ map class_number arrays.class }
     ensures { result ≡ shot_numbers arrays }
 {
     let radius = arrays.radius;
@@ -84,7 +84,7 @@ fn shot_numbers(arrays: ShotArrays, class_number: [u16; SHOTS]) -> ShotNumbers
         pulse_width,
         optical_width,
         laser_power,
-        class_number,
+        class_number: numbers,
         encoder,
         failures,
     }

@@ -1,7 +1,8 @@
 -- Array by array, as read; the classes by their column.
 use mathlib.Core.Path.{sym, ap, ◌∙◌}
 use mathlib.Core.List.{map}
-use Rattle.pedr_arrays.specs.Arrays.{class_number, shot_arrays_of, arrays_of}
+use Rattle.pedr_flags.specs.Class.{class_number}
+use Rattle.pedr_arrays.specs.Arrays.{shot_arrays_of, arrays_of}
 use Rattle.pedr_arrays.specs.declared.RecordArrays.{RecordArrays}
 use Rattle.pedr_c.specs.Numbers.{array_numbers}
 use Rattle.pedr_c.proofs.read_arrays.Goals as goal
