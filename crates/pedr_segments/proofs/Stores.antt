@@ -1,15 +1,12 @@
 -- Stores that make up a column between them, or two columns at once.
-use Prim.Native.Nat.{ℕ, ◌+◌, ◌*◌, ◌^◌, ◌<◌, ◌≤◌}
+use Prim.Native.Nat.{ℕ, ◌+◌, ◌*◌, ◌^◌, ◌<◌}
 use mathlib.Core.Path.{◌≡◌, refl, sym, ap, ◌∙◌}
 use mathlib.Core.List.{List}
 use native.Mathlib.Omega.{arith}
-use lib.ListN.{length, take, drop, length-drop}
-use lib.Seq.{take_all}
 use Rattle.numbers.specs.Bit.{from_bits}
 use Rattle.numbers.proofs.Bits.{bits_set_le}
 use Rattle.octets.specs.Bytes.{octets_of, put}
-use Rattle.octets.specs.Table.{octets_at, octets_of_all}
-use Rattle.octets.proofs.Codec.{octets_length, octets_split, octets_part}
+use Rattle.octets.proofs.Codec.{octets_length, octets_split}
 use Rattle.octets.proofs.Store.{put_then}
 use Rattle.pedr_flags.specs.Quality.{good_count}
 use Rattle.pedr_flags.specs.declared.Quality.{Quality}
@@ -36,15 +33,3 @@ unfolding descriptor_octets
 descriptor_stored d fs high low t u s n l e g =
     g ∙ ap (λ (z : List ℕ). put z 40 (octets_of 8 low)) e ∙ put_then (octets_of 8 high) s (octets_of 8 low) 32 40 (ap (λ (k : ℕ). 32 + k) (octets_length 8 high))
     ∙ ap (put s 32) (sym (octets_split 8 8 high low l) ∙ ap (octets_of 16) n)
-
--- the bytes before and from an index on, copied
-pub front_copied : (x t s : List ℕ) (i n : ℕ) → n ≤ length x → t ≡ put s i (octets_at x 0 n) → t ≡ put s i (take n x)
-front_copied x t s i n l e = e ∙ ap (put s i) (octets_part x 0 n (omega arith))
-
-pub rest_copied : (x t s : List ℕ) (i k n : ℕ) → k + n ≡ length x → t ≡ put s i (octets_at x k n) → t ≡ put s i (drop k x)
-rest_copied x t s i k n l e =
-    e ∙ ap (put s i) (octets_part x k n (omega arith) ∙ take_all n (drop k x) (omega (arith, length-drop k x)))
-
--- numbers that another list gives
-pub run_stored : (w : ℕ) (xs ys t s : List ℕ) (i : ℕ) → xs ≡ ys → t ≡ put s i (octets_of_all w xs) → t ≡ put s i (octets_of_all w ys)
-run_stored w xs ys t s i q e = e ∙ ap (λ (l : List ℕ). put s i (octets_of_all w l)) q

@@ -1,19 +1,12 @@
 -- Requests 1 and 2: what is due of the writer. A refusal writes no byte.
 use Rattle.std.specs.Prelude.{ℕ, List}
-use Rattle.octets.specs.Refusal.{Said, refused, answered, say, after}
+use Rattle.octets.specs.Refusal.{Said, say, after}
 use Rattle.pedr_arrays.specs.declared.RecordArrays.{RecordArrays}
 use Rattle.pedr_fields.specs.declared.RecordFields.{RecordFields}
 use Rattle.pedr_block.specs.declared.Block.{Block}
 use Rattle.pedr_block_runs.specs.declared.BlockRuns.{BlockRuns}
 use Rattle.pedr_write_refusal.specs.Refusal.{write_refusal}
 use Rattle.pedr_writer.specs.Record.{record_of}
-use Rattle.pedr_writer.specs.declared.RecordWritten.{RecordWritten}
-use Rattle.pedr_writer.specs.declared.RecordWritten.TheVariants.{Refused, Written}
-
--- the number that each case of the answer stands for
-abbrev pub written_said : RecordWritten → Said (Unit {0})
-written_said (Refused n) = refused n
-written_said Written = answered tt
 
 -- what is due of the writer, and the bytes then in the output
 abbrev pub write_due : RecordFields → Block → RecordArrays → List ℕ → List ℕ → List ℕ → Said (Unit {0})

@@ -9,7 +9,6 @@ use borrow.Author.Rules.{rules}
 use Rattle.pedr_flags.specs.Class.{class_number}
 use Rattle.pedr_segments.specs.Parts.{ground_parts}
 use Rattle.pedr_segments.proofs.Fits.{ground_columns, ground_fits, sized}
-use Rattle.pedr_segments.proofs.Stores.{run_stored}
 use Rattle.pedr_segments.proofs.put_ground.Goals as goal
 
 pub returns : goal.returns
@@ -28,7 +27,7 @@ returns c =
           (c.write_run.ensures
           ▸ ground
           ▸ c.write_run-3.ensures
-          ▸ run_stored 2 _ _ _ _ _ c.class_numbers.ensures c.write_run-4.ensures
+          ▸ rw c.class_numbers.ensures at c.write_run-4.ensures
           ▸ stop);
       size = sized (ground_parts f a) ground_columns 324 100 424 refl refl fit;
     }
