@@ -6,19 +6,18 @@ use Rattle.pedr_block_round_trip.proofs.type_frame_2.Goals as goal
 
 pub returns : goal.returns
 returns c =
-    let s = c in
-    (let of_type = s.well_formed.0.1.1.0 in one_signed s.args.fields.electronics_box_top_sc_thrmstr (search rules))
-    ▶ (let of_type = s.well_formed.0.1.1.1.0 in one_signed s.args.fields.laser_case_hot_foot_temp (search rules))
-    ▶ (let of_type = s.well_formed.0.1.1.1.1.0 in one 2 s.args.fields.plus_28_volt_voltage_monitor (search rules))
-    ▶ (let of_type = s.well_formed.0.1.1.1.1.1.0 in one 2 s.args.fields.reference_voltage_monitor (search rules))
-    ▶ (let of_type = s.well_formed.0.1.1.1.1.1.1.0 in one 2 s.args.fields.plus_12_volt_voltage_monitor (search rules))
-    ▶ (let of_type = s.well_formed.0.1.1.1.1.1.1.1.0 in one 2 s.args.fields.plus_24_volt_voltage_monitor (search rules))
-    ▶ (let of_type = s.well_formed.0.1.1.1.1.1.1.1.1.0 in one 2 s.args.fields.plus_5_volt_voltage_monitor (search rules))
-    ▶ (let of_type = s.well_formed.0.1.1.1.1.1.1.1.1.1.0 in one 2 s.args.fields.minus_12_volt_voltage_monitor (search rules))
-    ▶ (let of_type = s.well_formed.0.1.1.1.1.1.1.1.1.1.1.0 in one 2 s.args.fields.laser_thermal_current_monitor (search rules))
-    ▶ (let of_type = s.well_formed.0.1.1.1.1.1.1.1.1.1.1.1.0 in one 2 s.args.fields.minus_5_volt_voltage_monitor (search rules))
-    ▶ (let of_type = s.well_formed.0.1.1.1.1.1.1.1.1.1.1.1.1.0 in one 2 s.args.fields.power_supply_current_monitor (search rules))
-    ▶ (let of_type = s.well_formed.0.1.1.1.1.1.1.1.1.1.1.1.1.1.0 in one 2 s.args.fields.high_voltage_monitor (search rules))
-    ▶ (let of_type = s.well_formed.0.1.1.1.1.1.1.1.1.1.1.1.1.1.1.0 in one 2 s.args.fields.minus_12_volt_current_monitor (search rules))
-    ▶ (let of_type = s.well_formed.0.1.1.1.1.1.1.1.1.1.1.1.1.1.1.1.0 in one 2 s.args.fields.plus_12_volt_current_monitor (search rules))
+    one_signed c.args.fields.electronics_box_top_sc_thrmstr (search rules)
+    ▶ one_signed c.args.fields.laser_case_hot_foot_temp (search rules)
+    ▶ one 2 c.args.fields.plus_28_volt_voltage_monitor (search rules)
+    ▶ one 2 c.args.fields.reference_voltage_monitor (search rules)
+    ▶ one 2 c.args.fields.plus_12_volt_voltage_monitor (search rules)
+    ▶ one 2 c.args.fields.plus_24_volt_voltage_monitor (search rules)
+    ▶ one 2 c.args.fields.plus_5_volt_voltage_monitor (search rules)
+    ▶ one 2 c.args.fields.minus_12_volt_voltage_monitor (search rules)
+    ▶ one 2 c.args.fields.laser_thermal_current_monitor (search rules)
+    ▶ one 2 c.args.fields.minus_5_volt_voltage_monitor (search rules)
+    ▶ one 2 c.args.fields.power_supply_current_monitor (search rules)
+    ▶ one 2 c.args.fields.high_voltage_monitor (search rules)
+    ▶ one 2 c.args.fields.minus_12_volt_current_monitor (search rules)
+    ▶ one 2 c.args.fields.plus_12_volt_current_monitor (search rules)
     ▶ tt

@@ -20,20 +20,19 @@ tracker s = (search rules, λ k. search rules)
 
 pub returns : goal.returns
 returns c =
-    let s = c in
-    let flags_is = flags s in
-    let tracker_is = tracker s in
-    (let of_type = s.well_formed.0.1.1.0 in one 2 s.args.fields.minus_5_volt_current_monitor (search rules))
-    ▶ (let of_type = s.well_formed.0.1.1.1.0 in one 2 s.args.fields.plus_5_volt_current_monitor (search rules))
-    ▶ (let of_type = s.well_formed.0.1.1.1.1.0 in one 1 s.args.fields.current_status_register_value (search rules))
-    ▶ (let of_type = s.well_formed.0.1.1.1.1.1.0 in one 1 s.args.fields.software_version_number (search rules))
-    ▶ (let of_type = s.well_formed.0.1.1.1.1.1.1.0 in one 2 s.args.fields.flag_word (search rules))
-    ▶ items 2 s.args.flags (omega (arith, flags_is.0)) (λ k. (flags_is.1 k).fits)
-    ▶ (let of_type = s.well_formed.0.1.1.1.1.1.1.1.0 in one 2 s.args.fields.software_validity_checksum (search rules))
-    ▶ (let of_type = s.well_formed.0.1.1.1.1.1.1.1.1.0 in one 1 s.args.fields.received_command_count (search rules))
-    ▶ (let of_type = s.well_formed.0.1.1.1.1.1.1.1.1.1.0 in one 1 s.args.fields.command_error_count (search rules))
-    ▶ (let of_type = s.well_formed.0.1.1.1.1.1.1.1.1.1.1.0 in one 1 s.args.fields.transmitter_threshold_setting (search rules))
-    ▶ (let of_type = s.well_formed.0.1.1.1.1.1.1.1.1.1.1.1.0 in one 1 s.args.fields.range_tracking_status (search rules))
-    ▶ bytes s.args.carried.now 0 2 (λ k. (c.type_inv.carried k).fits)
-    ▶ items 4 s.args.tracker (omega (arith, tracker_is.0)) (λ k. (tracker_is.1 k).fits)
+    let flags_is = flags c in
+    let tracker_is = tracker c in
+    one 2 c.args.fields.minus_5_volt_current_monitor (search rules)
+    ▶ one 2 c.args.fields.plus_5_volt_current_monitor (search rules)
+    ▶ one 1 c.args.fields.current_status_register_value (search rules)
+    ▶ one 1 c.args.fields.software_version_number (search rules)
+    ▶ one 2 c.args.fields.flag_word (search rules)
+    ▶ items 2 c.args.flags (omega (arith, flags_is.0)) (λ k. (flags_is.1 k).fits)
+    ▶ one 2 c.args.fields.software_validity_checksum (search rules)
+    ▶ one 1 c.args.fields.received_command_count (search rules)
+    ▶ one 1 c.args.fields.command_error_count (search rules)
+    ▶ one 1 c.args.fields.transmitter_threshold_setting (search rules)
+    ▶ one 1 c.args.fields.range_tracking_status (search rules)
+    ▶ bytes c.args.carried.now 0 2 (λ k. (c.type_inv.carried k).fits)
+    ▶ items 4 c.args.tracker (omega (arith, tracker_is.0)) (λ k. (tracker_is.1 k).fits)
     ▶ tt

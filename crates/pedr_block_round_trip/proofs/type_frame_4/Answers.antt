@@ -16,7 +16,6 @@ tracker s = (search rules, λ k. search rules)
 
 pub returns : goal.returns
 returns c =
-    let s = c in
-    let tracker_is = tracker s in
-    items 14 s.args.tracker (omega (arith, tracker_is.0)) (λ k. (tracker_is.1 k).fits)
+    let tracker_is = tracker c in
+    items 14 c.args.tracker (omega (arith, tracker_is.0)) (λ k. (tracker_is.1 k).fits)
     ▶ tt

@@ -20,12 +20,11 @@ dump s = (search rules, λ k. search rules)
 
 pub returns : goal.returns
 returns c =
-    let s = c in
-    let tracker_is = tracker s in
-    let dump_is = dump s in
-    items 6 s.args.tracker (omega (arith, tracker_is.0)) (λ k. (tracker_is.1 k).fits)
-    ▶ (let of_type = s.well_formed.0.1.1.0 in one 4 s.args.fields.hstart_value_histogram_dump (search rules))
-    ▶ bytes s.args.carried.now 0 4 (λ k. (c.type_inv.carried k).fits)
-    ▶ (let of_type = s.well_formed.0.1.1.1.0 in one 2 s.args.fields.valid_commands_received_count (search rules))
-    ▶ items 3 s.args.dump (omega (arith, dump_is.0)) (λ k. (dump_is.1 k).fits)
+    let tracker_is = tracker c in
+    let dump_is = dump c in
+    items 6 c.args.tracker (omega (arith, tracker_is.0)) (λ k. (tracker_is.1 k).fits)
+    ▶ one 4 c.args.fields.hstart_value_histogram_dump (search rules)
+    ▶ bytes c.args.carried.now 0 4 (λ k. (c.type_inv.carried k).fits)
+    ▶ one 2 c.args.fields.valid_commands_received_count (search rules)
+    ▶ items 3 c.args.dump (omega (arith, dump_is.0)) (λ k. (dump_is.1 k).fits)
     ▶ tt

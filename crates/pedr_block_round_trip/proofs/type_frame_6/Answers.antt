@@ -20,10 +20,9 @@ echo s = (search rules, λ k. search rules)
 
 pub returns : goal.returns
 returns c =
-    let s = c in
-    let dump_is = dump s in
-    let echo_is = echo s in
-    items 5 s.args.dump (omega (arith, dump_is.0)) (λ k. (dump_is.1 k).fits)
-    ▶ items 8 s.args.echo (omega (arith, echo_is.0)) (λ k. (echo_is.1 k).fits)
-    ▶ (let of_type = s.well_formed.0.1.1.0 in one 2 s.args.fields.packet_validity_checksum (search rules))
+    let dump_is = dump c in
+    let echo_is = echo c in
+    items 5 c.args.dump (omega (arith, dump_is.0)) (λ k. (dump_is.1 k).fits)
+    ▶ items 8 c.args.echo (omega (arith, echo_is.0)) (λ k. (echo_is.1 k).fits)
+    ▶ one 2 c.args.fields.packet_validity_checksum (search rules)
     ▶ tt
