@@ -216,7 +216,7 @@ pass_turns σ (m, e) = go (say (pass_refusal s) s.window.start) e
     go : (x : Said ℕ) → (told x).said ≡ refused m
         → ByTurns σ (record { session = (told x).session; store = σ.store; events = σ.events ++ pass_tells (told x).said })
     go (refused k) h = no_turn σ
-    go (answered p) h = let z : ◌≡◌ {A = ℕ} 0 1 = cc in absurd (omega arith)
+    go (answered p) h = absurd cc
 
 -- ---- the whole list
 

@@ -32,13 +32,13 @@ use Rattle.reorder_histories.proofs.Between.{turn_told, turned_by, one_turn, tol
 -- ---- events
 
 pub gave≢took : (p q : ℕ) (b c : List ℕ) → gave p b ≡ took q c → ⊥
-gave≢took p q b c e = let z : ◌≡◌ {A = ℕ} 0 1 = cc in omega arith
+gave≢took p q b c e = cc
 
 pub missing≢took : (p q : ℕ) (c : List ℕ) → called_missing p ≡ took q c → ⊥
-missing≢took p q c e = let z : ◌≡◌ {A = ℕ} 0 1 = cc in omega arith
+missing≢took p q c e = cc
 
 gave≢missing : (p q : ℕ) (b : List ℕ) → gave p b ≡ called_missing q → ⊥
-gave≢missing p q b e = let z : ◌≡◌ {A = ℕ} 0 1 = cc in omega arith
+gave≢missing p q b e = cc
 
 -- what a turn has given, or called missing
 pub told_gave : (bytes : ℕ → List ℕ) (t : Turn) (p : ℕ) (b : List ℕ) → Memᴰ (gave p b) (turn_told bytes t) → (t ≡ Packet p) × (bytes p ≡ b)
@@ -100,8 +100,8 @@ turned_next s Waiting = (omega arith, omega arith)
 -- what a turn gives was next, and isn't any more
 gives_next : (s : Session) (t : Turn) → Shows s t → (p : ℕ) → t ≡ Packet p → p < (turned s t).window.start
 gives_next s (Packet n) (shows_packet e) p i = let j : s.window.start ≡ p = cc in omega arith
-gives_next s (Missing n) (shows_missing e q h k) p i = let z : ◌≡◌ {A = ℕ} 0 1 = cc in absurd (omega arith)
-gives_next s Waiting (shows_waiting e n) p i = let z : ◌≡◌ {A = ℕ} 0 1 = cc in absurd (omega arith)
+gives_next s (Missing n) (shows_missing e q h k) p i = absurd cc
+gives_next s Waiting (shows_waiting e n) p i = absurd cc
 
 -- a turn serves next, calls it missing, or leaves it
 settles : (σ : State) (t : Turn) → Shows σ.session t → (p : ℕ) → p ≡ σ.session.window.start → p < (turned σ.session t).window.start

@@ -90,8 +90,8 @@ alike_b s t k =
 -- what a turn gives is next, and was held
 pub gave_held : (s : Session) (t : Turn) → Shows s t → (p : ℕ) → t ≡ Packet p → (s.window.start ≡ p) × (held_at s.window p ≡ true)
 gave_held s (Packet n) (shows_packet h) p e = let i : s.window.start ≡ p = cc in (i, ap (held_at s.window) (sym i) ∙ h)
-gave_held s (Missing n) (shows_missing h q k l) p e = let z : ◌≡◌ {A = ℕ} 0 1 = cc in absurd (omega arith)
-gave_held s Waiting (shows_waiting h n) p e = let z : ◌≡◌ {A = ℕ} 0 1 = cc in absurd (omega arith)
+gave_held s (Missing n) (shows_missing h q k l) p e = absurd cc
+gave_held s Waiting (shows_waiting h n) p e = absurd cc
 
 module _ (f : ℕ) (a b : State) (lk : Link f a b) where
   -- b has what a gives
@@ -170,9 +170,9 @@ module _ (f : ℕ) (a b : State) (lk : Link f a b) where
 -- what a turn calls missing is next, and was not held
 missed : (s : Session) (t : Turn) → Shows s t → (p : ℕ) → t ≡ Missing p
     → (s.window.start ≡ p) × (held_at s.window p ≡ false) × (p < (turned s t).window.start)
-missed s (Packet n) (shows_packet h) p e = let z : ◌≡◌ {A = ℕ} 0 1 = cc in absurd (omega arith)
+missed s (Packet n) (shows_packet h) p e = absurd cc
 missed s (Missing n) (shows_missing h q k l) p e = let i : s.window.start ≡ p = cc in (i, ap (held_at s.window) (sym i) ∙ h, omega arith)
-missed s Waiting (shows_waiting h n) p e = let z : ◌≡◌ {A = ℕ} 0 1 = cc in absurd (omega arith)
+missed s Waiting (shows_waiting h n) p e = absurd cc
 
 module _ (f : ℕ) (a b : State) (lk : Link f a b) (quiet : Quiet f a) where
   -- from the frontier on b holds what a does, and its threshold is no lower

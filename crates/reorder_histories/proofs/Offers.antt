@@ -46,7 +46,7 @@ unfolding Offer-rules.offer_of
 not_25 σ x n e = n (said_is (said_by σ x) σ.session σ.store _ _ ∙ e)
 
 refused≢answered : (n p : ℕ) → refused n ≡ answered p → ⊥
-refused≢answered n p e = let z : ◌≡◌ {A = ℕ} 0 1 = cc in omega arith
+refused≢answered n p e = cc
 
 -- ---- both
 

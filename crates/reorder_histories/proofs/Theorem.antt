@@ -13,7 +13,7 @@ use Rattle.octets.proofs.Ladder.{answer_said}
 use Rattle.packet.specs.Fields.{fields_of}
 use Rattle.window.specs.declared.Window.{Window}
 use Rattle.window.specs.Window.{held_at, first_window}
-use Rattle.window.proofs.Tests.{not_then_false}
+use Rattle.std.proofs.lemmas.Bool.{false_from_ne_true}
 use Rattle.window.proofs.Held.{first_held}
 use Rattle.reorder_session.specs.declared.Session.{Session}
 use Rattle.reorder_session.specs.Session.{slot}
@@ -49,8 +49,8 @@ waits_quiet : (f : ℕ) (a b : State) → Link f a b → Waits a → Quiet f a
 waits_quiet f a b lk q = go (turn a.session) (shows a.session) (waits_turn a q)
   where
     go : (t : Turn) → Shows a.session t → t ≡ Waiting → Quiet f a
-    go (Packet p) (shows_packet h) e = let z : ◌≡◌ {A = ℕ} 0 1 = cc in absurd (omega arith)
-    go (Missing p) (shows_missing h r k l) e = let z : ◌≡◌ {A = ℕ} 0 1 = cc in absurd (omega arith)
+    go (Packet p) (shows_packet h) e = absurd cc
+    go (Missing p) (shows_missing h r k l) e = absurd cc
     go Waiting (shows_waiting h n) e =
         let i : f ≡ a.session.window.start = at_frontier f a b lk h in
         record { free = ap (held_at a.session.window) i ∙ h; near = λ r k m. n r k (omega arith) }
@@ -136,7 +136,7 @@ module _ (σ : State) (b : List ℕ) (h word : ℕ) (fs : First σ b h word) whe
   held_zero p e = first_held p (ap (λ (v : Window). held_at v p) (sym window_is) ∙ e)
 
   held_only : (p : ℕ) → 1 ≤ p → held_at σ.session.window p ≡ false
-  held_only p l = not_then_false (held_at σ.session.window p) (λ e. omega (arith, held_zero p e))
+  held_only p l = false_from_ne_true (held_at σ.session.window p) (λ e. omega (arith, held_zero p e))
 
   next_zero : σ.session.window.start ≡ 0
   next_zero = ap (λ (v : Window). v.start) window_is

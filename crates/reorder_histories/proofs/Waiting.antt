@@ -11,7 +11,7 @@ use Rattle.reorder_rules.specs.Serve as Serve-rules
 use Rattle.octets.specs.Refusal.{answered, say}
 use Rattle.octets.proofs.Ladder.{then_pass, pass_eq, pass_le, say_answered}
 use Rattle.window.specs.Window.{held_at}
-use Rattle.window.proofs.Tests.{not_then_false}
+use Rattle.std.proofs.lemmas.Bool.{false_from_ne_true}
 use Rattle.window.proofs.Held.{held_least, held_most, none_held}
 use Rattle.reorder_session.specs.declared.Session.{Session}
 use Rattle.reorder_session.specs.Session.{single}
@@ -36,7 +36,7 @@ use Rattle.reorder_histories.proofs.Theorem.{opened_size, higher_threshold_loses
 past_all : (n : ℕ) (s : Session) → ((q : ℕ) → held_at s.window q ≡ true → q < s.window.start + n) → turn (turned_all s (turns n s)) ≡ Waiting
 unfolding Turn-rules.turns Turn-rules.turned_all
 past_all zero s h =
-    turn_waiting single s (not_then_false (held_at s.window s.window.start) (λ e. omega (arith, h s.window.start e)))
+    turn_waiting single s (false_from_ne_true (held_at s.window s.window.start) (λ e. omega (arith, h s.window.start e)))
     (none_held s.window (s.window.start + s.threshold) (λ q e l. omega (arith, h q e, held_least s.window q e)))
 past_all (suc n) s h = go (moves_or (turn s)) (past_all n (one_turn s))
   where

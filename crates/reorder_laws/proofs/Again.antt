@@ -46,15 +46,15 @@ Gone t p = (t ≡ Packet p) ⊎ (t ≡ Missing p)
 
 of_packet : (n p : ℕ) → Gone (Packet n) p → n ≡ p
 of_packet n p (inl e) = cc
-of_packet n p (inr e) = let z : ◌≡◌ {A = ℕ} 0 1 = cc in absurd (omega arith)
+of_packet n p (inr e) = absurd cc
 
 of_missing : (n p : ℕ) → Gone (Missing n) p → n ≡ p
-of_missing n p (inl e) = let z : ◌≡◌ {A = ℕ} 0 1 = cc in absurd (omega arith)
+of_missing n p (inl e) = absurd cc
 of_missing n p (inr e) = cc
 
 not_waiting : (p : ℕ) → Gone Waiting p → ⊥
-not_waiting p (inl e) = let z : ◌≡◌ {A = ℕ} 0 1 = cc in omega arith
-not_waiting p (inr e) = let z : ◌≡◌ {A = ℕ} 0 1 = cc in omega arith
+not_waiting p (inl e) = cc
+not_waiting p (inr e) = cc
 
 moved_on : (s : Session) (p : ℕ) (t : Turn) → Shows s t → Gone t p → ((turned s t).window.start ≡ p + 1) × (held_at (turned s t).window (p + 32) ≡ false)
 moved_on s p (Packet q) (shows_packet e) g =

@@ -96,7 +96,7 @@ module _ (store : List ℕ) (size : length store ≡ 34560) (one : List ℕ) (ro
   bytes_all : (b : ℕ) (s : Session) → Whole s → (i p : ℕ) → answer_at (turns b s) i ≡ Packet p
       → bytes_at (get_or (map bytes_by (serves b s one store)) i []) 0 ≡ slot store p
   unfolding serves Turn-rules.turns
-  bytes_all zero s v i p e = let z : ◌≡◌ {A = ℕ} 0 1 = cc in absurd (omega arith)
+  bytes_all zero s v i p e = absurd cc
   bytes_all (suc b) s v i p e = go (turns_split single b s) i e (λ t w. bytes_all b t w)
     where
       f : Fine s
@@ -109,8 +109,7 @@ module _ (store : List ℕ) (size : length store ≡ 34560) (one : List ℕ) (ro
           → ((t : Session) → Whole t → (j p : ℕ) → answer_at (turns b t) j ≡ Packet p → bytes_at (get_or (map bytes_by (serves b t one store)) j []) 0 ≡ slot store p) → at j
       go (inl w) j h r =
           let q : Waiting ≡ Packet p = sym (ap (λ (ts : List Turn). answer_at ts j) w.1) ∙ h in
-          let z : ◌≡◌ {A = ℕ} 0 1 = cc in
-          absurd (omega arith)
+          absurd cc
       go (inr u) zero h r =
           let q : turn s ≡ Packet p = sym (ap (λ (ts : List Turn). answer_at ts 0) u) ∙ h in
           ap (λ (l : List ℕ). bytes_at l 0) (f.bytes ∙ ap (shown s 0 store one) q) ∙ piece_same one (slot store p) 0 (slot_length store p size) (omega arith)

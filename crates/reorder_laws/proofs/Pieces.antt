@@ -53,7 +53,7 @@ module _ (store : List ℕ) (size : length store ≡ 34560) where
   pub shown_packet : (s : Session) (ts : List Turn) (k i p : ℕ) (out : List ℕ) → 1080 * (k + length ts) ≤ length out → answer_at ts i ≡ Packet p
       → bytes_at (shown_all s k store out ts) (k + i) ≡ slot store p
   unfolding Turn-rules.shown_all
-  shown_packet s [] k i p out h e = let z : ◌≡◌ {A = ℕ} 0 1 = cc in absurd (omega arith)
+  shown_packet s [] k i p out h e = absurd cc
   shown_packet s (t ∷ ts) k zero p out h e =
       let q : k + 0 ≡ k = omega arith in
       ap (bytes_at (shown_all (turned s t) (suc k) store (shown s k store out t) ts)) q

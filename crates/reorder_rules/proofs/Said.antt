@@ -2,7 +2,6 @@
 use Prim.Native.Nat.{ℕ, zero, suc}
 use mathlib.Core.Path.{◌≡◌, refl, sym, ap, ◌∙◌}
 use mathlib.Core.List.{List}
-use native.Mathlib.Omega.{arith}
 use Rattle.octets.specs.Refusal.{Said, refused, answered}
 use Rattle.reorder_rules.specs.Outcome.{Outcome, outcome, refusing, ComesTo}
 
@@ -24,7 +23,7 @@ pub record Left {S A : Type 0} (x : Said A) (s : S) (b : List ℕ) (f : A → S)
   pub bytes : (outcome x s b f g).bytes ≡ g a
 
 pub left : {S A : Type 0} (x : Said A) (s : S) (b : List ℕ) (f : A → S) (g : A → List ℕ) (a : A) → (outcome x s b f g).said ≡ answered a → Left x s b f g a
-left (refused n) s b f g a e = let z : ◌≡◌ {A = ℕ} 0 1 = cc in absurd (omega arith)
+left (refused n) s b f g a e = absurd cc
 left (answered y) s b f g a e =
     let i : y ≡ a = cc in
     record { answer = e; session = ap f i; bytes = ap g i }
@@ -33,7 +32,7 @@ left (answered y) s b f g a e =
 pub left_refused : {S A : Type 0} (x : Said A) (s : S) (b : List ℕ) (f : A → S) (g : A → List ℕ) (n : ℕ) → (outcome x s b f g).said ≡ refused n
     → ((outcome x s b f g).session ≡ s) × ((outcome x s b f g).bytes ≡ b)
 left_refused (refused m) s b f g n e = (refl, refl)
-left_refused (answered y) s b f g n e = let z : ◌≡◌ {A = ℕ} 0 1 = cc in absurd (omega arith)
+left_refused (answered y) s b f g n e = absurd cc
 
 -- ---- what the code gives for a promise
 
@@ -87,4 +86,4 @@ refusing_next m x y e q = q ∙ ap (λ (k : ℕ). refusing k x) (sym e)
 pub refusing_none : {A : Type 0} (m : ℕ) (x : Said A) (a : A) → refusing m x ≡ answered a → (m ≡ 0) × (x ≡ answered a)
 unfolding refusing
 refusing_none zero x a e = (refl, e)
-refusing_none (suc m) x a e = let z : ◌≡◌ {A = ℕ} 0 1 = cc in absurd (omega arith)
+refusing_none (suc m) x a e = absurd cc

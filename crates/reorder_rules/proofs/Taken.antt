@@ -3,7 +3,6 @@ use Prim.Native.Nat.{ℕ, ◌+◌, ◌≤◌}
 use mathlib.Core.Path.{◌≡◌, refl, sym, ap, ◌∙◌, subst}
 use mathlib.Core.Bool.{Bool, true, false}
 use mathlib.Core.List.{List}
-use native.Mathlib.Omega.{arith}
 use borrow.Author.Tests.{eqb-true, not-true}
 use lib.IntN.{ℤ, pos, negsuc, nat_abs}
 use lib.Signed.{le_z}
@@ -31,7 +30,7 @@ number_of n (negsuc m) e = absurd (omega ints)
 
 pub admitted_at : (start : ℕ) (held : ℕ → Bool) (y : Said ℤ) (p : ℕ) → admitted start held y ≡ answered p → Admitted start held y p
 unfolding admitted position_refusal
-admitted_at start held (refused n) p e = let z : ◌≡◌ {A = ℕ} 0 1 = cc in absurd (omega arith)
+admitted_at start held (refused n) p e = absurd cc
 admitted_at start held (answered z) p e =
     let a = answer_said (position_refusal start held z) (nat_abs z) p (sym e) in
     let c1 = passed _ 21 _ a.0 in

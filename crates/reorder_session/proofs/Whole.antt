@@ -10,7 +10,7 @@ use Rattle.octets.proofs.Ladder.{pass, fail, passed, within_true, then_pass, the
 use Rattle.packet_layout.specs.SumWord.{is_sum_word}
 use Rattle.reorder_rules.specs.Sizes.{is_threshold}
 use Rattle.window.specs.Window.{held_at, some_held}
-use Rattle.window.proofs.Tests.{or_neither}
+use Rattle.std.proofs.lemmas.Bool.{or_parts}
 use Rattle.window.proofs.Held.{held_none, none_held}
 use Rattle.reorder_session.specs.declared.Session.{Session}
 use Rattle.reorder_session.specs.Session.{past_end, broken, single}
@@ -27,10 +27,10 @@ pub record Whole (s : Session) : Type 0 where
 pub whole : (s : Session) → broken s ≡ false → Whole s
 unfolding broken past_end
 whole s e =
-    let c1 = or_neither (ltb 16383 s.anchor.count) _ e in
-    let c2 = or_neither (not (is_threshold s.threshold)) _ c1.1 in
-    let c3 = or_neither (not (is_sum_word s.sum_word)) _ c2.1 in
-    let c4 = or_neither (ltb 1000000 s.window.start) _ c3.1 in
+    let c1 = or_parts (ltb 16383 s.anchor.count) _ e in
+    let c2 = or_parts (not (is_threshold s.threshold)) _ c1.1 in
+    let c3 = or_parts (not (is_sum_word s.sum_word)) _ c2.1 in
+    let c4 = or_parts (ltb 1000000 s.window.start) _ c3.1 in
     let h = within_true 1 31 s.threshold (not-false (is_threshold s.threshold) c2.0) in
     let w = within_true 53 539 s.sum_word (not-false (is_sum_word s.sum_word) c3.0) in
     record {

@@ -7,7 +7,7 @@ use Rattle.numbers.specs.Bit.{bit, clear_bit}
 use Rattle.numbers.proofs.Bits.{bit_pow_other, bit_set_same, bit_set_other, bit_clear_same, bit_clear_other}
 use Rattle.window.specs.declared.Window.{Window}
 use Rattle.window.specs.Window.{held_at, some_among, some_held, holding, freed, skipped, first_window, in32_bits}
-use Rattle.window.proofs.Tests.{and_left, and_right, or_either, or_second, not_then_false}
+use Rattle.std.proofs.lemmas.Bool.{and_parts, or_cases, or_right, false_from_ne_true}
 
 -- ---- one position
 
@@ -29,11 +29,11 @@ module _ (w : Window) (p : ℕ) where
 
   pub held_least : held_at w p ≡ true → w.start ≤ p
   unfolding held_at
-  held_least e = leb-true w.start p (and_left _ _ e)
+  held_least e = leb-true w.start p (and_parts _ _ e).0
 
   pub held_most : held_at w p ≡ true → p ≤ w.start + 31
   unfolding held_at
-  held_most e = leb-true p (w.start + 31) (and_left _ _ (and_right (leb w.start p) _ e))
+  held_most e = leb-true p (w.start + 31) (and_parts _ _ (and_parts (leb w.start p) _ e).1).0
 
 -- ---- a bit cleared, in a word of any width
 
@@ -124,11 +124,11 @@ module _ (w : Window) (lo : ℕ) where
   among_held : (n : ℕ) → some_among n w lo ≡ true → (p : ℕ) × (held_at w p ≡ true) × (lo ≤ p)
   unfolding some_among
   among_held zero e = absurd (false≢true e)
-  among_held (suc n) e = go (or_either _ _ e) (among_held n)
+  among_held (suc n) e = go (or_cases _ _ e) (among_held n)
     where
       go : ((leb lo (w.start + n) && held_at w (w.start + n)) ≡ true) ⊎ (some_among n w lo ≡ true)
           → (some_among n w lo ≡ true → (p : ℕ) × (held_at w p ≡ true) × (lo ≤ p)) → (p : ℕ) × (held_at w p ≡ true) × (lo ≤ p)
-      go (inl a) r = (w.start + n, and_right (leb lo (w.start + n)) _ a, leb-true lo (w.start + n) (and_left _ _ a))
+      go (inl a) r = let b = and_parts (leb lo (w.start + n)) _ a in (w.start + n, b.1, leb-true lo (w.start + n) b.0)
       go (inr b) r = r b
 
   held_among : (n j : ℕ) → j < n → held_at w (w.start + j) ≡ true → lo ≤ w.start + j → some_among n w lo ≡ true
@@ -140,7 +140,7 @@ module _ (w : Window) (lo : ℕ) where
       go (yes i) r =
           let f : held_at w (w.start + n) ≡ true = ap (λ (x : ℕ). held_at w (w.start + x)) (sym i) ∙ e in
           rw (f, le-leb lo (w.start + n) (omega arith))
-      go (no d) r = or_second (leb lo (w.start + n) && held_at w (w.start + n)) (some_among n w lo) (r (omega arith) e h)
+      go (no d) r = or_right (leb lo (w.start + n) && held_at w (w.start + n)) (some_among n w lo) (r (omega arith) e h)
 
   pub some_held_lem : some_held w lo ≡ true → (p : ℕ) × (held_at w p ≡ true) × (lo ≤ p)
   unfolding some_held
@@ -155,7 +155,7 @@ module _ (w : Window) (lo : ℕ) where
       held_among 32 (p - w.start) (omega arith) (ap (held_at w) k ∙ e) (omega arith)
 
   pub none_held : ((p : ℕ) → held_at w p ≡ true → lo ≤ p → ⊥) → some_held w lo ≡ false
-  none_held h = not_then_false (some_held w lo) (λ e. let r = some_held_lem e in h r.0 r.1 r.2)
+  none_held h = false_from_ne_true (some_held w lo) (λ e. let r = some_held_lem e in h r.0 r.1 r.2)
 
   pub held_none : some_held w lo ≡ false → (p : ℕ) → held_at w p ≡ true → lo ≤ p → ⊥
   held_none e p h l = true≢false (sym (held_some p h l) ∙ e)
