@@ -7,8 +7,8 @@ ghost use Rattle.reorder_histories.specs.History.{offer, serve, drain, offer_tel
 ghost use Rattle.reorder_c_answers.specs.Answers.{position_said, turn_said, turns_said};
 ghost use Rattle.reorder_c.specs.Calls.{OpensAs, OffersAs, ServesAs, DrainsAs, PassesAs};
 
-use reorder_c::{Answered, Counted};
-use reorder_c_answers::DESCRIPTION_NUMBERS;
+use lent_record::Stepped;
+use reorder_c_answers::{Answer, Count, DESCRIPTION_NUMBERS};
 use reorder_session::Session;
 
 // Each of these makes one call. It promises what the call does, and that the call is the start, or a step, of a history.
@@ -18,7 +18,7 @@ pub fn open_start(
     packet: &[u8],
     threshold: u32,
     sum_word: u32,
-) -> Answered
+) -> Stepped<Answer, Session>
     ensures { OpensAs session store.old packet.now threshold sum_word result.answer result.session store.new
         × IsStart (open_of session store.old packet.now threshold sum_word) packet.now
         result.session store.new (offer_tells (position_said result.answer) packet.now) }
@@ -26,7 +26,7 @@ pub fn open_start(
     reorder_c::open(session, store, packet, threshold, sum_word)
 }
 
-pub fn offer_step(session: Session, store: &mut [u8], packet: &[u8]) -> Answered
+pub fn offer_step(session: Session, store: &mut [u8], packet: &[u8]) -> Stepped<Answer, Session>
     ensures { OffersAs session store.old packet.now result.answer result.session store.new
         × IsStep single session store.old (offer packet.now)
         result.session store.new (offer_tells (position_said result.answer) packet.now) }
@@ -34,7 +34,7 @@ pub fn offer_step(session: Session, store: &mut [u8], packet: &[u8]) -> Answered
     reorder_c::offer(session, store, packet)
 }
 
-pub fn serve_step(session: Session, out: &mut [u8], store: &[u8]) -> Answered
+pub fn serve_step(session: Session, out: &mut [u8], store: &[u8]) -> Stepped<Answer, Session>
     ensures { ServesAs session out.old store.now result.answer result.session out.new
         × IsStep single session store.now (serve out.old)
         result.session store.now (serve_tells (turn_said result.answer) out.new) }
@@ -48,7 +48,7 @@ pub fn drain_step(
     store: &[u8],
     budget: u32,
     descriptions: &mut [u32; DESCRIPTION_NUMBERS],
-) -> Counted
+) -> Stepped<Count, Session>
     ensures { DrainsAs session out.old store.now budget descriptions.old
         result.answer result.session out.new descriptions.new
         × IsStep single session store.now (drain out.old budget)
@@ -57,7 +57,7 @@ pub fn drain_step(
     reorder_c::drain(session, out, store, budget, descriptions)
 }
 
-pub fn pass_step(session: Session) -> Answered
+pub fn pass_step(session: Session) -> Stepped<Answer, Session>
     ensures { PassesAs session result.answer result.session
         × IsPassStep single session result.session (pass_tells (position_said result.answer)) }
 {

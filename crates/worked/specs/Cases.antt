@@ -23,7 +23,7 @@ use Rattle.position.specs.Position.{position, published_tolerance}
 use Rattle.window.specs.Window.{holding, first_window, no_window}
 use Rattle.reorder_session.specs.declared.Session.{Session}
 use Rattle.reorder_session.specs.Calls.{offer_due, turn, serve_refusal}
-use Rattle.reorder_rules.specs.Turn.{missing, waiting}
+use Rattle.reorder_rules.specs.declared.Turn.TheVariants.{Missing, Waiting}
 
 -- the free fields of a packet with this count and coarse time, all others zero
 unfoldable pub counted : ℕ → ℕ → PacketFields
@@ -134,9 +134,9 @@ pub record Cases : Type 0 where
   pub offer_999986 : offer_due anchored 34560 (timed_packet 16379 999986) ≡ refused 23
   -- next 0, H 3, only position 2 held: Waiting; only 3 held: Missing 0
   pub serve_2_held : serve_refusal (holding_only 2) 34560 1080 ≡ 0
-  pub only_2_held : turn (holding_only 2) ≡ waiting
+  pub only_2_held : turn (holding_only 2) ≡ Waiting
   pub serve_3_held : serve_refusal (holding_only 3) 34560 1080 ≡ 0
-  pub only_3_held : turn (holding_only 3) ≡ missing 0
+  pub only_3_held : turn (holding_only 3) ≡ Missing 0
   -- position 31 is held, 32 gives 25
   pub position_31 : offer_due (holding_only 2) 34560 (timed_packet 31 (14 * 31)) ≡ answered 31
   pub position_32 : offer_due (holding_only 2) 34560 (timed_packet 32 (14 * 32)) ≡ refused 25

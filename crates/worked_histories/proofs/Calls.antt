@@ -26,7 +26,9 @@ use Rattle.reorder_offer.specs.Opening.{opened, open_due, open_of}
 use Rattle.reorder_rules.proofs.Said.{said_is, left, left_refused}
 use Rattle.reorder_rules.proofs.Turns.{Split, turns_split}
 use Rattle.reorder_rules.proofs.Taken.{taken_offer}
-use Rattle.reorder_rules.specs.Turn.{Turn, packet, waiting, bytes_at}
+use Rattle.reorder_rules.specs.declared.Turn.{Turn}
+use Rattle.reorder_rules.specs.declared.Turn.TheVariants.{Packet, Waiting}
+use Rattle.reorder_rules.specs.Turn.{bytes_at}
 use Rattle.reorder_turn.proofs.Turns.{shows}
 use Rattle.reorder_rules.proofs.Ready.{serve_ready}
 use Rattle.reorder_laws.specs.Serves.{answer_at}
@@ -67,15 +69,15 @@ length_filled n x = length-replicate {A = ℕ} n x
 held_before : (s : Session) (q : ℕ) → held_at (turned s (turn s)).window q ≡ true → held_at s.window q ≡ true
 held_before s q h = sym (turned_held s (turn s) (shows s) q (held_least (turned s (turn s)).window q h)) ∙ h
 
-given_held_all : (n : ℕ) (s : Session) (i p : ℕ) → answer_at (turns n s) i ≡ packet p → held_at s.window p ≡ true
+given_held_all : (n : ℕ) (s : Session) (i p : ℕ) → answer_at (turns n s) i ≡ Packet p → held_at s.window p ≡ true
 unfolding Turn-rules.turns
 given_held_all zero s i p e = let z : ◌≡◌ {A = ℕ} 0 1 = cc in absurd (omega arith)
 given_held_all (suc n) s i p e = go (turns_split single n s) i e (λ j h. given_held_all n (turned s (turn s)) j p h)
   where
-    go : Split single n s → (j : ℕ) → answer_at (turns (suc n) s) j ≡ packet p
-        → ((j : ℕ) → answer_at (turns n (turned s (turn s))) j ≡ packet p → held_at (turned s (turn s)).window p ≡ true) → held_at s.window p ≡ true
+    go : Split single n s → (j : ℕ) → answer_at (turns (suc n) s) j ≡ Packet p
+        → ((j : ℕ) → answer_at (turns n (turned s (turn s))) j ≡ Packet p → held_at (turned s (turn s)).window p ≡ true) → held_at s.window p ≡ true
     go (inl u) j h r =
-        let q : waiting ≡ packet p = sym (ap (λ (ts : List Turn). answer_at ts j) u.1) ∙ h in
+        let q : Waiting ≡ Packet p = sym (ap (λ (ts : List Turn). answer_at ts j) u.1) ∙ h in
         let z : ◌≡◌ {A = ℕ} 0 1 = cc in
         absurd (omega arith)
     go (inr u) zero h r = (gave_held s (turn s) (shows s) p (sym (ap (λ (ts : List Turn). answer_at ts 0) u) ∙ h)).1
@@ -247,7 +249,7 @@ module _ {σ : State} {s : Session} {es : List Event} (k : Stands σ s es) where
       room : 1080 ≤ length (filled n x)
       room = omega (arith, length_filled n x, (serve_ready single s 34560 n r.0).out)
 
-      there : (j p : ℕ) → answer_at (t ∷ []) j ≡ packet p → bytes_at (by_serve σ n x).bytes (0 + j) ≡ packet_at p
+      there : (j p : ℕ) → answer_at (t ∷ []) j ≡ Packet p → bytes_at (by_serve σ n x).bytes (0 + j) ≡ packet_at p
       there zero p h =
           ap (λ (c : List ℕ). bytes_at c 0) (l.1 ∙ ap (shown σ.session 0 σ.store (filled n x)) h)
           ∙ piece_same (filled n x) (slot σ.store p) 0 (slot_length σ.store p k.size) (omega (arith, room))
@@ -266,7 +268,7 @@ module _ {σ : State} {s : Session} {es : List Event} (k : Stands σ s es) where
       let a : (by_drain σ n x budget).said ≡ answered ts = drain_said n x budget ∙ e in
       let d = drained σ.session (filled n x) σ.store budget ts a in
       let all : turns budget s ≡ ts = sym (d.all ∙ ap (turns budget) k.session) in
-      let there : (j p : ℕ) → answer_at ts j ≡ packet p → bytes_at (by_drain σ n x budget).bytes (0 + j) ≡ packet_at p =
+      let there : (j p : ℕ) → answer_at ts j ≡ Packet p → bytes_at (by_drain σ n x budget).bytes (0 + j) ≡ packet_at p =
       λ j p h.
       let q : 0 + j ≡ j = omega arith in
       ap (bytes_at (by_drain σ n x budget).bytes) q ∙ drained_packet σ.session (filled n x) σ.store budget ts d j p h
@@ -283,12 +285,12 @@ module _ {σ : State} {s : Session} {es : List Event} (k : Stands σ s es) where
       record { session = l.0 ∙ k.session; size = k.size; bytes = k.bytes; events = (λ i. k.events i ++ pass_tells (a i)) ∙ append-nil es }
 
   -- a serve with room says Waiting
-  pub waits : says_serve s 1080 ≡ answered waiting → Waits σ
+  pub waits : says_serve s 1080 ≡ answered Waiting → Waits σ
   waits e = record { out = filled 1080 0; room = omega (arith, length_filled 1080 0); answers = serve_said 1080 0 ∙ e }
 
 -- ---- lists of calls
 
-pub no_more : {σ : State} {s : Session} {es : List Event} → Stands σ s es → says_serve s 1080 ≡ answered waiting → Comes true σ [] [] s es
+pub no_more : {σ : State} {s : Session} {es : List Event} → Stands σ s es → says_serve s 1080 ≡ answered Waiting → Comes true σ [] [] s es
 unfolding Supposed refusals History-rules.run_by
 no_more k e = record { supposed = waits k e; numbers = refl; ends = k }
 

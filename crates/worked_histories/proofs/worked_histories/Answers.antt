@@ -24,7 +24,7 @@ use Rattle.reorder_rules.specs.Outcome.{refusing}
 use Rattle.reorder_rules.specs.Offer.{position_refusal, admitted}
 use Rattle.reorder_session.specs.Calls.{offer_due}
 use Rattle.reorder_offer.specs.Opening.{opened, open_refusal, open_due}
-use Rattle.reorder_rules.specs.Turn.{packet, missing, waiting}
+use Rattle.reorder_rules.specs.declared.Turn.TheVariants.{Packet, Missing, Waiting}
 use Rattle.reorder_histories.specs.History.{Event, took, gave, called_missing, offers}
 use Rattle.worked.specs.Cases.{counted, timed_packet}
 use Rattle.worked_histories.specs.Examples.{packet_at, filled, no_packet, late_less, late_more, absent_less, absent_more, begun}
@@ -95,13 +95,13 @@ absent_more_events = took 0 (packet_at 0) ∷ took 2 (packet_at 2) ∷ gave 0 (p
 late_less_lem : Comes false (begun late_less) late_less.calls (0 ∷ 29 ∷ 0 ∷ 0 ∷ 1 ∷ 23 ∷ 0 ∷ []) (session 1 3 0) late_less_events
 unfolding refuse◌unless◌else◌ ◌then◌ say held_at some_among some_held past_end broken Turn-rules.turn Turn-rules.turns Turn-rules.turned_all Serve-rules.serve_refusal Serve-rules.drain_refusal
 late_less_lem =
-    then_serve (open_stands late_less (size 0) says.opens_1 (says.session_opened 1)) 1080 0 (answered (packet 0)) refl (λ a.
+    then_serve (open_stands late_less (size 0) says.opens_1 (says.session_opened 1)) 1080 0 (answered (Packet 0)) refl (λ a.
     then_serve a 10 0 (refused 29) refl (λ b.
     then_take b tt 2 says.offer_2_to_1 (λ c.
-    then_drain c 34560 0 32 (answered (missing 1 ∷ packet 2 ∷ [])) refl (λ d.
+    then_drain c 34560 0 32 (answered (Missing 1 ∷ Packet 2 ∷ [])) refl (λ d.
     then_no_take d (waits d refl) no_packet 1 (λ e. omega arith) says.offer_none_to_1 (λ e.
     then_no_take e (waits e refl) (packet_at 1) 23 (λ f. omega arith) says.offer_1_to_1 (λ f.
-    then_serve f 1080 0 (answered waiting) refl (λ g.
+    then_serve f 1080 0 (answered Waiting) refl (λ g.
     no_more g refl)))))))
 
 late_more_lem : Comes false (begun late_more) late_more.calls (26 ∷ 0 ∷ 0 ∷ 31 ∷ 1 ∷ 0 ∷ 0 ∷ []) (session 2 3 0) late_more_events
@@ -109,33 +109,33 @@ unfolding refuse◌unless◌else◌ ◌then◌ say held_at some_among some_held 
 late_more_lem =
     then_no_pass (open_stands late_more (size 255) says.opens_2 (says.session_opened 2)) 26 refl (λ a.
     then_take a tt 2 says.offer_2_to_2 (λ b.
-    then_serve b 1080 7 (answered (packet 0)) refl (λ c.
+    then_serve b 1080 7 (answered (Packet 0)) refl (λ c.
     then_drain c 34560 0 33 (refused 31) refl (λ d.
     then_no_take d (waits d refl) no_packet 1 (λ e. omega arith) says.offer_none_to_2 (λ e.
     then_take e (waits e refl) 1 says.offer_1_to_2 (λ f.
-    then_drain f 34560 7 32 (answered (packet 1 ∷ packet 2 ∷ [])) refl (λ g.
+    then_drain f 34560 7 32 (answered (Packet 1 ∷ Packet 2 ∷ [])) refl (λ g.
     no_more g refl)))))))
 
 absent_less_lem : Comes false (begun absent_less) absent_less.calls (0 ∷ 0 ∷ 0 ∷ 0 ∷ 0 ∷ 0 ∷ []) (session 1 6 0) absent_less_events
 unfolding refuse◌unless◌else◌ ◌then◌ say held_at some_among some_held past_end broken Turn-rules.turn Turn-rules.turns Turn-rules.turned_all Serve-rules.serve_refusal Serve-rules.drain_refusal
 absent_less_lem =
-    then_serve (open_stands absent_less (size 0) says.opens_1 (says.session_opened 1)) 1080 0 (answered (packet 0)) refl (λ a.
+    then_serve (open_stands absent_less (size 0) says.opens_1 (says.session_opened 1)) 1080 0 (answered (Packet 0)) refl (λ a.
     then_take a tt 2 says.offer_2_to_1 (λ b.
-    then_serve b 1080 0 (answered (missing 1)) refl (λ c.
-    then_serve c 1080 0 (answered (packet 2)) refl (λ d.
+    then_serve b 1080 0 (answered (Missing 1)) refl (λ c.
+    then_serve c 1080 0 (answered (Packet 2)) refl (λ d.
     then_take d (waits d refl) 5 says.offer_5_to_1 (λ e.
-    then_drain e 34560 0 32 (answered (missing 3 ∷ missing 4 ∷ packet 5 ∷ [])) refl (λ f.
+    then_drain e 34560 0 32 (answered (Missing 3 ∷ Missing 4 ∷ Packet 5 ∷ [])) refl (λ f.
     no_more f refl))))))
 
 absent_more_lem : Comes false (begun absent_more) absent_more.calls (0 ∷ 0 ∷ 0 ∷ 0 ∷ 0 ∷ 0 ∷ []) (session 3 3 32) absent_more_events
 unfolding refuse◌unless◌else◌ ◌then◌ say held_at some_among some_held past_end broken Turn-rules.turn Turn-rules.turns Turn-rules.turned_all Serve-rules.serve_refusal Serve-rules.drain_refusal
 absent_more_lem =
     then_take (open_stands absent_more (size 255) says.opens_3 (says.session_opened 3)) tt 2 says.offer_2_to_3 (λ a.
-    then_drain a 34560 0 32 (answered (packet 0 ∷ [])) refl (λ b.
-    then_serve b 1080 0 (answered waiting) refl (λ c.
+    then_drain a 34560 0 32 (answered (Packet 0 ∷ [])) refl (λ b.
+    then_serve b 1080 0 (answered Waiting) refl (λ c.
     then_take c (waits c refl) 5 says.offer_5_to_3 (λ d.
-    then_serve d 1080 7 (answered (missing 1)) refl (λ e.
-    then_serve e 1080 7 (answered (packet 2)) refl (λ f.
+    then_serve d 1080 7 (answered (Missing 1)) refl (λ e.
+    then_serve e 1080 7 (answered (Packet 2)) refl (λ f.
     no_more f refl))))))
 
 pub returns : goal.returns
