@@ -11,7 +11,7 @@ use pedr_block_c::BlockNumbers;
 use pedr_block_runs::BlockRuns;
 use pedr_c::ArrayNumbers;
 use pedr_fields::RecordFields;
-use pedr_writer::RecordWritten;
+use pedr_write_refusal::GivenRecord;
 
 // Writes a record of the block and the arrays that the numbers stand for: the refusal number, or 0. A refusal leaves the output as it was.
 pub fn write_record(
@@ -28,20 +28,13 @@ pub fn write_record(
         × (out.new ≡ write_bytes fields (block_of_numbers block fields.receiver.frame_index) (arrays_of_numbers arrays) runs
         carried.now uninterpreted.now out.old) }
 {
-    let receiver = fields.receiver;
-    let block_given = pedr_block_c::block_of(block, receiver.frame_index);
-    let arrays_given = pedr_c::arrays_of(arrays);
-    let written = pedr_writer::write_record(
-        fields,
-        block_given,
-        arrays_given,
-        runs,
+    let given = GivenRecord {
+        fields: &fields,
+        block: &pedr_block_c::block_of(block, fields.receiver.frame_index),
+        arrays: &pedr_c::arrays_of(arrays),
+        runs: &runs,
         carried,
         uninterpreted,
-        out,
-    );
-    match written {
-        RecordWritten::Refused(n) => n,
-        RecordWritten::Written => 0,
-    }
+    };
+    refusal::number_of(pedr_writer::write_record(&given, out))
 }
