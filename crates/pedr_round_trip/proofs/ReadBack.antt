@@ -29,13 +29,13 @@ use Rattle.pedr_flags_writer.specs.Encoder.{encoder_byte}
 use Rattle.pedr_flags_writer.specs.Quality.{quality_bits}
 use Rattle.pedr_flags_writer.proofs.Codes.{quality_parts, quality_lt, count_low, encoder_parts}
 use Rattle.pedr_flags_writer.proofs.DescriptorRead.{failures_given, descriptor_given}
-use Rattle.pedr_arrays.specs.Arrays.{shot_class, classes_of, encoders_of, shot_arrays_of, channel_arrays_of, arrays_of, no_arrays}
+use Rattle.pedr_arrays.specs.Arrays.{classes_of, encoders_of, shot_arrays_of, channel_arrays_of, arrays_of, no_arrays}
 use Rattle.pedr_arrays.specs.Uninterpreted.{uninterpreted_of, no_uninterpreted}
 use Rattle.pedr_arrays.specs.declared.RecordArrays.{RecordArrays}
 use Rattle.pedr_fields.specs.Fields.{time_of, position_of, pointing_of, ranges_of, receiver_of, link_of, fields_of}
 use Rattle.pedr_fields.specs.declared.RecordFields.{RecordFields}
 use Rattle.pedr_check.specs.Refusal.{values_refusal, record_refusal}
-use Rattle.pedr_codes.specs.Codes.{is_proper, is_proper_shot, has_two_bits}
+use Rattle.pedr_codes.specs.Codes.{is_proper, has_two_bits}
 use Rattle.pedr_block.specs.Block.{block_of}
 use Rattle.pedr_block.specs.declared.Block.{Block}
 use Rattle.pedr_block_runs.specs.Runs.{runs_of, no_runs}
@@ -48,7 +48,6 @@ use Rattle.pedr_write_check.proofs.Accept.{Proper}
 use Rattle.pedr_write_refusal.specs.Refusal.{write_refusal}
 use Rattle.pedr_write_refusal.proofs.Accept.{Writable, writable}
 use Rattle.pedr.specs.Read.{read_due, read_arrays, read_runs, read_carried, read_uninterpreted}
-use Rattle.pedr_arrays.specs.Arrays.{shot_class_number}
 use Rattle.pedr_segments.proofs.Fits.{Sizes}
 use Rattle.pedr_writer.specs.Record.{record_parts, record_of}
 use Rattle.pedr_writer.proofs.Fits.{record_fits}
@@ -213,13 +212,13 @@ module _ (f : RecordFields) (b : Block) (a : RecordArrays) (r : BlockRuns) (c x 
   unfolding classes_of
   classes_are =
       let cs = a.shots.class in
-      let d = shot_class 0 in
+      let d = class_of 0 in
       let l = u.shots.class.0 in
-      let numbers : nats_at s 384 2 20 ≡ map shot_class_number cs =
-      several unsigned 384 2 20 (map shot_class_number cs) (omega arith) (omega arith) (length-map cs shot_class_number ∙ l) u.shots.class.1 (col 23) in
-      table_below 20 (λ k. shot_class (item s columns.class k)) (λ k. get_or cs k d)
-      (λ k h. ap shot_class (item_is 384 2 k (map shot_class_number cs) numbers h ∙ get_or-map shot_class_number cs k d)
-      ∙ ap (λ (c : Class). record { class = c }) (class_of_lem (get_or cs k d).class (each_at is_proper_shot cs k d m.classes (rw l h))))
+      let numbers : nats_at s 384 2 20 ≡ map class_number cs =
+      several unsigned 384 2 20 (map class_number cs) (omega arith) (omega arith) (length-map cs class_number ∙ l) u.shots.class.1 (col 23) in
+      table_below 20 (λ k. class_of (item s columns.class k)) (λ k. get_or cs k d)
+      (λ k h. ap class_of (item_is 384 2 k (map class_number cs) numbers h ∙ get_or-map class_number cs k d)
+      ∙ class_of_lem (get_or cs k d) (each_at is_proper cs k d m.classes (rw l h)))
       ∙ ap (λ (n : ℕ). table n (λ k. get_or cs k d)) (sym l) ∙ table_self cs d
 
   encoders_are : encoders_of s ≡ a.shots.encoder

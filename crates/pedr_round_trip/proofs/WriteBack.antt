@@ -29,12 +29,12 @@ use Rattle.pedr_flags_writer.specs.Encoder.{encoder_byte}
 use Rattle.pedr_flags_writer.specs.Quality.{quality_bits}
 use Rattle.pedr_flags_writer.proofs.Codes.{quality_whole, count_low, class_whole, encoder_whole}
 use Rattle.pedr_flags_writer.proofs.DescriptorRead.{descriptor_whole}
-use Rattle.pedr_arrays.specs.Arrays.{shot_class, classes_of, encoders_of, shot_arrays_of, channel_arrays_of, arrays_of}
+use Rattle.pedr_arrays.specs.Arrays.{classes_of, encoders_of, shot_arrays_of, channel_arrays_of, arrays_of}
 use Rattle.pedr_arrays.specs.Uninterpreted.{uninterpreted_of}
 use Rattle.pedr_fields.specs.Fields.{time_of, position_of, pointing_of, ranges_of, receiver_of, link_of, fields_of}
 use Rattle.pedr_check.specs.Refusal.{record_refusal}
 use Rattle.pedr_check.proofs.Accept.{Accepted, accepted}
-use Rattle.pedr_codes.specs.Codes.{is_proper_shot, has_two_bits}
+use Rattle.pedr_codes.specs.Codes.{is_proper, has_two_bits}
 use Rattle.pedr_codes.proofs.Proper.{class_proper}
 use Rattle.pedr_block.specs.Block.{block_of}
 use Rattle.pedr_block.proofs.Frame.{case_is_index}
@@ -44,7 +44,6 @@ use Rattle.pedr_block_round_trip.proofs.WriteBack.{block_back, own_length}
 use Rattle.pedr_write_check.proofs.Accept.{Proper}
 use Rattle.pedr_write_refusal.specs.Refusal.{write_refusal}
 use Rattle.pedr_write_refusal.proofs.Accept.{Writable, room_decides}
-use Rattle.pedr_arrays.specs.Arrays.{shot_class_number}
 use Rattle.pedr_writer.specs.Record.{record_parts, record_of}
 use Rattle.pedr_round_trip.specs.RoundTrip.{WritesBack, copy_refusal}
 
@@ -67,10 +66,10 @@ module _ (s : List ℕ) (o : Octets s) (z : record_refusal s ≡ 0) where
   unfolding quality_of
   counter_is = count_low (nat_at s 28 3) ∙ a.counter
 
-  classes_are : map shot_class_number (classes_of s) ≡ nats_at s 384 2 20
+  classes_are : map class_number (classes_of s) ≡ nats_at s 384 2 20
   unfolding classes_of nats_at
   classes_are =
-      map_table shot_class_number 20 (λ k. shot_class (item s columns.class k))
+      map_table class_number 20 (λ k. class_of (item s columns.class k))
       ∙ table_same 20 (λ k. class_number (class_of (item s columns.class k))) (λ k. nat_at s (384 + 2 * k) 2) (λ k. class_whole (item s columns.class k))
 
   encoders_are : map encoder_byte (encoders_of s) ≡ nats_at s 620 1 20
@@ -145,9 +144,9 @@ module _ (s : List ℕ) (o : Octets s) (z : record_refusal s ≡ 0) where
   unfolding record_of
   bytes_are = ap join parts_are ∙ join_cut s columns.record_columns 0 776 refl (sym a.size)
 
-  proper_classes : each is_proper_shot (classes_of s) ≡ true
+  proper_classes : each is_proper (classes_of s) ≡ true
   unfolding classes_of
-  proper_classes = each_table is_proper_shot 20 (λ k. shot_class (item s columns.class k)) (λ k. class_proper (item s columns.class k))
+  proper_classes = each_table is_proper 20 (λ k. class_of (item s columns.class k)) (λ k. class_proper (item s columns.class k))
 
   two_bits : each has_two_bits (encoders_of s) ≡ true
   unfolding encoders_of

@@ -7,7 +7,7 @@ use Rattle.pedr_layout.specs.Layout as columns
 use Rattle.pedr_arrays.specs.declared.ShotArrays.{ShotArrays}
 use Rattle.pedr_arrays.specs.declared.RecordArrays.{RecordArrays}
 use Rattle.pedr_fields.specs.declared.RecordFields.{RecordFields}
-use Rattle.pedr_arrays.specs.Arrays.{shot_class_number}
+use Rattle.pedr_flags.specs.Class.{class_number}
 
 pub record TypedFields (f : RecordFields) : Type 0 where
   pub whole : SignedFits 32 f.time.whole
@@ -44,7 +44,7 @@ pub record TypedShots (s : ShotArrays) : Type 0 where
   pub pulse_width : (length s.pulse_width ≡ columns.shot_count) × HoldsAll unsigned 2 s.pulse_width
   pub optical_width : (length s.optical_width ≡ columns.shot_count) × HoldsAll unsigned 2 s.optical_width
   pub laser_power : (length s.laser_power ≡ columns.shot_count) × HoldsAll unsigned 2 s.laser_power
-  pub class : (length s.class ≡ columns.shot_count) × HoldsAll unsigned 2 (map shot_class_number s.class)
+  pub class : (length s.class ≡ columns.shot_count) × HoldsAll unsigned 2 (map class_number s.class)
   pub encoder : length s.encoder ≡ columns.shot_count
   pub failures : length s.failures ≡ columns.shot_count
 

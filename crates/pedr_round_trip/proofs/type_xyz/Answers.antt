@@ -10,9 +10,9 @@ use Rattle.pedr_round_trip.proofs.Bounds.{signed_32}
 use Rattle.pedr_round_trip.proofs.type_xyz.Goals as goal
 
 pub returns : goal.returns
-returns c zero = signed_32 (get_or c.args.xyz 0 (pos 0)) (record { sfits = c.i32_bits-arg-1.given })
-returns c (suc zero) = signed_32 (get_or c.args.xyz 1 (pos 0)) (record { sfits = c.i32_bits-arg-2-1.given })
-returns c (suc (suc zero)) = signed_32 (get_or c.args.xyz 2 (pos 0)) (record { sfits = c.i32_bits-arg-3-1.given })
+returns c zero = signed_32 (get_or c.args.xyz 0 (pos 0)) (search rules)
+returns c (suc zero) = signed_32 (get_or c.args.xyz 1 (pos 0)) (search rules)
+returns c (suc (suc zero)) = signed_32 (get_or c.args.xyz 2 (pos 0)) (search rules)
 returns c (suc (suc (suc k))) =
     let l : length c.args.xyz ≡ 3 = search rules in
     let h : length c.args.xyz ≤ suc (suc (suc k)) = omega arith in
