@@ -204,7 +204,7 @@ class Reading:
         owners = [crate for crate, source in tree.sources.items() if text in source.functions]
         if len(owners) == 1:
             return ('function', owners[0], text)
-        return (text in tree.defined or text in tree.declared or text in tree.imported or text in KEYWORDS or re.fullmatch(r'\d+|\w', text)
+        return (text in tree.defined or text in tree.declared or text in tree.imported or text in tree.used or text in KEYWORDS or re.fullmatch(r'\d+|\w', text)
                 or text in tree.called_in_c or self.is_law(i) or self.is_ending(i) or self.is_case_file(i)
                 or tree.is_path(text) or tree.is_printed(text)) and ('name',)
 

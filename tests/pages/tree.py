@@ -108,7 +108,7 @@ class Cases:
     """The cases that are run."""
 
     def __init__(self):
-        tables = re.findall(r'const (\w+): \[u64; \w+\] = \[(.*?)\];', uncommented(read(PACKET_CASES)), re.S)
+        tables = re.findall(r'const (\w+): \[\w+; \w+\] = \[(.*?)\];', uncommented(read(PACKET_CASES)), re.S)
         self.tables = {name: [self.row(row.strip()) for row in body.split(',') if row.strip()] for name, body in tables}
         records = re.search(r'const \w+: \[u64; \w+\] = \[(.*?)\n\];', read(RECORD_CASES), re.S)[1]
         self.headings = re.findall(r'(?m)^ *// (.*)', records)
@@ -184,8 +184,10 @@ class Tree:
         self.declared = set().union(*(source.names for source in sources))
         self.enums = {name: cases for source in sources for name, cases in source.cases.items()}
         self.imported = set().union(*(file.imported for file in (*specs, *sources)))
+        # methods and types of the language's library that the code uses
+        self.used = {name for names in re.findall(r'\.(\w+)\(|\b([A-Z]\w+)\b', self.code) for name in names if name}
         variables = set().union(*(file.variables for file in specs), *self.headers.values())
-        self.words = self.defined | self.declared | self.imported | parts(self.defined) | variables | KEYWORDS | set(self.groups)
+        self.words = self.defined | self.declared | self.imported | self.used | parts(self.defined) | variables | KEYWORDS | set(self.groups)
 
     @lru_cache(None)
     def definitions(self, crate):
