@@ -116,9 +116,9 @@ pub record Examples : Type 0 where
   pub late : OpenedAlike late_less late_more (packet_at 0) 53
   pub late_less_refusals : refusals (begun late_less) late_less.calls ≡ 0 ∷ 29 ∷ 0 ∷ 0 ∷ 1 ∷ 23 ∷ 0 ∷ []
   pub late_more_refusals : refusals (begun late_more) late_more.calls ≡ 26 ∷ 0 ∷ 0 ∷ 31 ∷ 1 ∷ 0 ∷ 0 ∷ []
-  pub late_less_events_lem : (ended late_less).events
+  pub late_less_events : (ended late_less).events
       ≡ took 0 (packet_at 0) ∷ gave 0 (packet_at 0) ∷ took 2 (packet_at 2) ∷ called_missing 1 ∷ gave 2 (packet_at 2) ∷ []
-  pub late_more_events_lem : (ended late_more).events
+  pub late_more_events : (ended late_more).events
       ≡ took 0 (packet_at 0) ∷ took 2 (packet_at 2) ∷ gave 0 (packet_at 0) ∷ took 1 (packet_at 1) ∷ gave 1 (packet_at 1) ∷ gave 2 (packet_at 2) ∷ []
   pub late_less_missing : CalledMissing (ended late_less) 1
   pub late_less_unserved : (c : List ℕ) → Served (ended late_less) 1 c → ⊥
@@ -128,9 +128,9 @@ pub record Examples : Type 0 where
   pub absent : OpenedAlike absent_less absent_more (packet_at 0) 53
   pub absent_less_refusals : refusals (begun absent_less) absent_less.calls ≡ 0 ∷ 0 ∷ 0 ∷ 0 ∷ 0 ∷ 0 ∷ []
   pub absent_more_refusals : refusals (begun absent_more) absent_more.calls ≡ 0 ∷ 0 ∷ 0 ∷ 0 ∷ 0 ∷ 0 ∷ []
-  pub absent_less_events_lem : (ended absent_less).events
+  pub absent_less_events : (ended absent_less).events
       ≡ took 0 (packet_at 0) ∷ gave 0 (packet_at 0) ∷ took 2 (packet_at 2) ∷ called_missing 1 ∷ gave 2 (packet_at 2) ∷ took 5 (packet_at 5) ∷ called_missing 3 ∷ called_missing 4 ∷ gave 5 (packet_at 5) ∷ []
-  pub absent_more_events_lem : (ended absent_more).events
+  pub absent_more_events : (ended absent_more).events
       ≡ took 0 (packet_at 0) ∷ took 2 (packet_at 2) ∷ gave 0 (packet_at 0) ∷ took 5 (packet_at 5) ∷ called_missing 1 ∷ gave 2 (packet_at 2) ∷ []
   pub absent_more_missing : CalledMissing (ended absent_more) 1
   pub absent_less_missing : CalledMissing (ended absent_less) 1

@@ -79,20 +79,20 @@ says =
 
 -- ---- the lists
 
-abbrev late_less_events : List Event
-late_less_events = took 0 (packet_at 0) ∷ gave 0 (packet_at 0) ∷ took 2 (packet_at 2) ∷ called_missing 1 ∷ gave 2 (packet_at 2) ∷ []
+abbrev events_of_late_less : List Event
+events_of_late_less = took 0 (packet_at 0) ∷ gave 0 (packet_at 0) ∷ took 2 (packet_at 2) ∷ called_missing 1 ∷ gave 2 (packet_at 2) ∷ []
 
-abbrev late_more_events : List Event
-late_more_events = took 0 (packet_at 0) ∷ took 2 (packet_at 2) ∷ gave 0 (packet_at 0) ∷ took 1 (packet_at 1) ∷ gave 1 (packet_at 1) ∷ gave 2 (packet_at 2) ∷ []
+abbrev events_of_late_more : List Event
+events_of_late_more = took 0 (packet_at 0) ∷ took 2 (packet_at 2) ∷ gave 0 (packet_at 0) ∷ took 1 (packet_at 1) ∷ gave 1 (packet_at 1) ∷ gave 2 (packet_at 2) ∷ []
 
-abbrev absent_less_events : List Event
-absent_less_events =
+abbrev events_of_absent_less : List Event
+events_of_absent_less =
     took 0 (packet_at 0) ∷ gave 0 (packet_at 0) ∷ took 2 (packet_at 2) ∷ called_missing 1 ∷ gave 2 (packet_at 2) ∷ took 5 (packet_at 5) ∷ called_missing 3 ∷ called_missing 4 ∷ gave 5 (packet_at 5) ∷ []
 
-abbrev absent_more_events : List Event
-absent_more_events = took 0 (packet_at 0) ∷ took 2 (packet_at 2) ∷ gave 0 (packet_at 0) ∷ took 5 (packet_at 5) ∷ called_missing 1 ∷ gave 2 (packet_at 2) ∷ []
+abbrev events_of_absent_more : List Event
+events_of_absent_more = took 0 (packet_at 0) ∷ took 2 (packet_at 2) ∷ gave 0 (packet_at 0) ∷ took 5 (packet_at 5) ∷ called_missing 1 ∷ gave 2 (packet_at 2) ∷ []
 
-late_less_lem : Comes false (begun late_less) late_less.calls (0 ∷ 29 ∷ 0 ∷ 0 ∷ 1 ∷ 23 ∷ 0 ∷ []) (session 1 3 0) late_less_events
+late_less_lem : Comes false (begun late_less) late_less.calls (0 ∷ 29 ∷ 0 ∷ 0 ∷ 1 ∷ 23 ∷ 0 ∷ []) (session 1 3 0) events_of_late_less
 unfolding refuse◌unless◌else◌ ◌then◌ say held_at some_among some_held past_end broken Turn-rules.turn Turn-rules.turns Turn-rules.turned_all Serve-rules.serve_refusal Serve-rules.drain_refusal
 late_less_lem =
     then_serve (open_stands late_less (size 0) says.opens_1 (says.session_opened 1)) 1080 0 (answered (Packet 0)) refl (λ a.
@@ -104,7 +104,7 @@ late_less_lem =
     then_serve f 1080 0 (answered Waiting) refl (λ g.
     no_more g refl)))))))
 
-late_more_lem : Comes false (begun late_more) late_more.calls (26 ∷ 0 ∷ 0 ∷ 31 ∷ 1 ∷ 0 ∷ 0 ∷ []) (session 2 3 0) late_more_events
+late_more_lem : Comes false (begun late_more) late_more.calls (26 ∷ 0 ∷ 0 ∷ 31 ∷ 1 ∷ 0 ∷ 0 ∷ []) (session 2 3 0) events_of_late_more
 unfolding refuse◌unless◌else◌ ◌then◌ say held_at some_among some_held past_end broken Turn-rules.turn Turn-rules.turns Turn-rules.turned_all Serve-rules.serve_refusal Serve-rules.drain_refusal Pass-rules.pass_refusal
 late_more_lem =
     then_no_pass (open_stands late_more (size 255) says.opens_2 (says.session_opened 2)) 26 refl (λ a.
@@ -116,7 +116,7 @@ late_more_lem =
     then_drain f 34560 7 32 (answered (Packet 1 ∷ Packet 2 ∷ [])) refl (λ g.
     no_more g refl)))))))
 
-absent_less_lem : Comes false (begun absent_less) absent_less.calls (0 ∷ 0 ∷ 0 ∷ 0 ∷ 0 ∷ 0 ∷ []) (session 1 6 0) absent_less_events
+absent_less_lem : Comes false (begun absent_less) absent_less.calls (0 ∷ 0 ∷ 0 ∷ 0 ∷ 0 ∷ 0 ∷ []) (session 1 6 0) events_of_absent_less
 unfolding refuse◌unless◌else◌ ◌then◌ say held_at some_among some_held past_end broken Turn-rules.turn Turn-rules.turns Turn-rules.turned_all Serve-rules.serve_refusal Serve-rules.drain_refusal
 absent_less_lem =
     then_serve (open_stands absent_less (size 0) says.opens_1 (says.session_opened 1)) 1080 0 (answered (Packet 0)) refl (λ a.
@@ -127,7 +127,7 @@ absent_less_lem =
     then_drain e 34560 0 32 (answered (Missing 3 ∷ Missing 4 ∷ Packet 5 ∷ [])) refl (λ f.
     no_more f refl))))))
 
-absent_more_lem : Comes false (begun absent_more) absent_more.calls (0 ∷ 0 ∷ 0 ∷ 0 ∷ 0 ∷ 0 ∷ []) (session 3 3 32) absent_more_events
+absent_more_lem : Comes false (begun absent_more) absent_more.calls (0 ∷ 0 ∷ 0 ∷ 0 ∷ 0 ∷ 0 ∷ []) (session 3 3 32) events_of_absent_more
 unfolding refuse◌unless◌else◌ ◌then◌ say held_at some_among some_held past_end broken Turn-rules.turn Turn-rules.turns Turn-rules.turned_all Serve-rules.serve_refusal Serve-rules.drain_refusal
 absent_more_lem =
     then_take (open_stands absent_more (size 255) says.opens_3 (says.session_opened 3)) tt 2 says.offer_2_to_3 (λ a.
@@ -152,16 +152,16 @@ returns c =
       };
       late_less_refusals = late_less_lem.numbers;
       late_more_refusals = late_more_lem.numbers;
-      late_less_events_lem = late_less_lem.ends.events;
-      late_more_events_lem = late_more_lem.ends.events;
+      late_less_events = late_less_lem.ends.events;
+      late_more_events = late_more_lem.ends.events;
       late_less_missing =
           subst (Memᴰ (called_missing 1)) (sym late_less_lem.ends.events) (Memᴰ.tail (Memᴰ.tail (Memᴰ.tail (Memᴰ.head refl))));
       late_less_unserved =
-          λ b m. not_given 1 b late_less_events ((λ e. omega arith), ((λ e. omega arith), tt)) (subst (Memᴰ (gave 1 b)) late_less_lem.ends.events m);
+          λ b m. not_given 1 b events_of_late_less ((λ e. omega arith), ((λ e. omega arith), tt)) (subst (Memᴰ (gave 1 b)) late_less_lem.ends.events m);
       late_more_served =
           subst (Memᴰ (gave 1 (packet_at 1))) (sym late_more_lem.ends.events)
           (Memᴰ.tail (Memᴰ.tail (Memᴰ.tail (Memᴰ.tail (Memᴰ.head refl)))));
-      late_more_missing_none = λ p m. none_missing p late_more_events tt (subst (Memᴰ (called_missing p)) late_more_lem.ends.events m);
+      late_more_missing_none = λ p m. none_missing p events_of_late_more tt (subst (Memᴰ (called_missing p)) late_more_lem.ends.events m);
       absent = record {
         less_accepted = open_said absent_less (size 0) says.opens_1;
         more_accepted = open_said absent_more (size 255) says.opens_3;
@@ -172,8 +172,8 @@ returns c =
       };
       absent_less_refusals = absent_less_lem.numbers;
       absent_more_refusals = absent_more_lem.numbers;
-      absent_less_events_lem = absent_less_lem.ends.events;
-      absent_more_events_lem = absent_more_lem.ends.events;
+      absent_less_events = absent_less_lem.ends.events;
+      absent_more_events = absent_more_lem.ends.events;
       absent_more_missing =
           subst (Memᴰ (called_missing 1)) (sym absent_more_lem.ends.events)
           (Memᴰ.tail (Memᴰ.tail (Memᴰ.tail (Memᴰ.tail (Memᴰ.head refl)))));
@@ -186,7 +186,7 @@ returns c =
           (Memᴰ.tail (Memᴰ.tail (Memᴰ.tail (Memᴰ.tail (Memᴰ.tail (Memᴰ.tail (Memᴰ.head refl)))))))));
       absent_more_unserved =
           λ b m.
-          not_given 5 b absent_more_events ((λ e. omega arith), ((λ e. omega arith), tt)) (subst (Memᴰ (gave 5 b)) absent_more_lem.ends.events m);
+          not_given 5 b events_of_absent_more ((λ e. omega arith), ((λ e. omega arith), tt)) (subst (Memᴰ (gave 5 b)) absent_more_lem.ends.events m);
       absent_more_held = record {
         earlier = took 0 (packet_at 0) ∷ took 2 (packet_at 2) ∷ gave 0 (packet_at 0) ∷ [];
         since = called_missing 1 ∷ gave 2 (packet_at 2) ∷ [];
