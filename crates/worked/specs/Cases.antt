@@ -117,9 +117,9 @@ pub record Cases : Type 0 where
   pub encoder_stop : (encoder_of 0x21).stop ≡ 2
   -- whole -187,606,958, µs -864,490: -187,606,958,864,490
   pub time_accepted : record_refusal (time_record 187606958 864490) ≡ 0
-  pub time_whole_lem : (time_of (time_record 187606958 864490)).whole ≡ neg_ℤ (pos 187606958)
-  pub time_micros_lem : (time_of (time_record 187606958 864490)).micros ≡ neg_ℤ (pos 864490)
-  pub time_in_micros_lem : time_in_micros (time_of (time_record 187606958 864490)) ≡ neg_ℤ (pos 187606958864490)
+  pub negative_whole : (time_of (time_record 187606958 864490)).whole ≡ neg_ℤ (pos 187606958)
+  pub negative_micros : (time_of (time_record 187606958 864490)).micros ≡ neg_ℤ (pos 864490)
+  pub negative_in_micros : time_in_micros (time_of (time_record 187606958 864490)) ≡ neg_ℤ (pos 187606958864490)
   -- µs -1,000,000 gives 13
   pub micros_refused : record_refusal (time_record 0 1000000) ≡ 13
   -- c0 16,380, t0 1,000,000. Count 5 at 1,000,126 is position 9; at 1,229,502 it is 16,393; at 1,003,726 still 9; at 1,003,727 gives 21
