@@ -172,7 +172,7 @@ pub const NEGATIVE2: u64 = 65_536;
 
 pub const COUNT: usize = 538;
 
-const CASES: [u64; COUNT] = [
+pub const CASES: [u64; COUNT] = [
     // The fills as they are read.
     ZEROS + WRITE,
     ONES + WRITE,
@@ -742,8 +742,3 @@ const CASES: [u64; COUNT] = [
     WRITE + BLOCK_CARRIED + 5 * ITEM + 0xD5,
     WRITE + BLOCK_CARRIED + 10 * ITEM + 0xD6,
 ];
-
-// Row i, from 0; past the end, 0.
-pub(crate) fn row(i: usize) -> u64 {
-    if i < COUNT { CASES[i] } else { 0 }
-}

@@ -1,12 +1,12 @@
 // What the writer is given: the fields of a record that a rule fills, and the sizes of what is lent.
-use crate::{cases, show};
-use pedr::RecordAnswer;
+use crate::cases;
+use pedr::Record;
 use pedr_arrays::RecordArrays;
 use pedr_block::Block;
 use pedr_block_runs::BlockRuns;
 use pedr_fields::RecordFields;
 use pedr_layout::{RECORD_SIZE, UNINTERPRETED};
-use std::io::Stdout;
+use refusal::Refusal;
 
 // The carried bytes that are lent are the first of 16, the uninterpreted ones the first of 256.
 #[derive(Clone, Copy)]
@@ -52,49 +52,27 @@ fn fill_byte(fill: u64, frame: u64, b: usize) -> u8 {
 
 fn filled(fill: u64, frame: u64) -> [u8; RECORD_SIZE] {
     let mut bytes = [0; RECORD_SIZE];
-    let mut k = 0;
-    while k < RECORD_SIZE {
-        bytes[k] = fill_byte(fill, frame, k + 1);
-        k = k + 1;
+    for (k, byte) in bytes.iter_mut().enumerate() {
+        *byte = fill_byte(fill, frame, k + 1);
     }
     bytes
 }
 
-// Says so where a fill is refused.
-fn accepted(stdout: Stdout, answer: RecordAnswer, bytes: &[u8]) -> RecordFields {
-    match answer {
-        RecordAnswer::Accepted(fields, _) => fields,
-        RecordAnswer::Refused(n) => {
-            show::text(stdout, b"fill");
-            show::refused(stdout, n);
-            show::text(stdout, b"\n");
-            pedr_fields::read_fields(bytes)
-        }
-    }
-}
-
-fn accepted_block(answer: RecordAnswer, bytes: &[u8]) -> Block {
-    match answer {
-        RecordAnswer::Accepted(_, block) => block,
-        RecordAnswer::Refused(_) => pedr_block::read_block(bytes),
-    }
-}
-
-pub(crate) fn filled_record(stdout: Stdout, fill: u64, frame: u64) -> Given {
-    let bytes = filled(fill, frame);
-    let record = pedr::read_record(&bytes);
-    let answer = record.answer;
-    let arrays = record.arrays;
-    let runs = record.runs;
-    let read_carried = record.carried;
-    let read = record.uninterpreted;
-    let block = accepted_block(answer, &bytes);
+pub(crate) fn filled_record(fill: u64, frame: u64) -> Result<Given, Refusal> {
+    let record = pedr::read_record(&filled(fill, frame))?;
     let mut carried = [0; 16];
-    octets::write_into(&read_carried, 0, &mut carried);
+    octets::write_into(&record.carried, 0, &mut carried);
     let mut uninterpreted = [0; 256];
-    octets::write_into(&read, 0, &mut uninterpreted);
-    Given {
-        fields: accepted(stdout, answer, &bytes),
+    octets::write_into(&record.uninterpreted, 0, &mut uninterpreted);
+    let Record {
+        fields,
+        block,
+        arrays,
+        runs,
+        ..
+    } = record;
+    Ok(Given {
+        fields,
         block,
         arrays,
         runs,
@@ -103,5 +81,5 @@ pub(crate) fn filled_record(stdout: Stdout, fill: u64, frame: u64) -> Given {
         uninterpreted,
         uninterpreted_size: UNINTERPRETED,
         output_size: RECORD_SIZE,
-    }
+    })
 }

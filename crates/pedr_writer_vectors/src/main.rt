@@ -9,36 +9,31 @@ mod rows;
 mod show;
 mod writes;
 
-use std::io::Stdout;
+use std::io;
 
-// The first n rows in turn; each finds the fields as the last one left them.
-fn run_all(stdout: Stdout, n: usize) {
-    let mut g = given::filled_record(stdout, cases::ZEROS, 1);
-    let mut i = 0;
-    while i < n {
-        let row = cases::row(i);
-        let fill = rows::fill(row);
+// The rows in turn; each finds the fields as the last one left them.
+fn run_all(rt: &impl Print) -> io::Result<()> {
+    let mut filled = given::filled_record(cases::ZEROS, 1);
+    for (i, row) in cases::CASES.iter().enumerate() {
+        let fill = rows::fill(*row);
         if fill != 0 {
-            g = given::filled_record(stdout, fill, rows::frame(row));
+            filled = given::filled_record(fill, rows::frame(*row));
         }
-        g = changes::changed(g, row);
-        if rows::show(row) != 0 {
-            writes::write(stdout, i, row, g);
+        match &mut filled {
+            Ok(given) => {
+                changes::change(given, *row);
+                writes::write(rt, i, *row, given)?;
+            }
+            Err(refusal) => println!(rt; "fill refused {}", u8::from(*refusal))?,
         }
-        i = i + 1;
     }
+    Ok(())
 }
 
-fn legend(stdout: Stdout) {
-    show::text(
-        stdout,
-        b"write: the answer; of a record that is written the counter as it is read, digests of the block's runs and carried bytes, \
-        and what was read is written again; digests of both outputs, each with the bytes after it\n",
-    );
-}
-
-fn main(rt: HostRuntime) {
-    let stdout = rt.stdout();
-    legend(stdout);
-    run_all(stdout, cases::COUNT);
+fn main(rt: HostRuntime) -> io::Result<()> {
+    println!(rt;
+        "write: the answer; of a record that is written the counter as it is read, digests of the block's runs and carried bytes, \
+        and what was read is written again; digests of both outputs, each with the bytes after it"
+    )?;
+    run_all(&rt)
 }

@@ -1,66 +1,39 @@
-// Text, numbers and digests on standard output. A write that fails leaves its text out.
+// The parts that several lines share, and digests.
 
-use std::io::Stdout;
+use refusal::Refusal;
+use std::io;
 
-pub(crate) fn text(stdout: Stdout, bytes: &[u8]) {
-    let _ = stdout.write_all(bytes);
-}
-
-// A space and a number.
-pub(crate) fn entry(stdout: Stdout, n: u64) {
-    text(stdout, b" ");
-    let _ = stdout.print(n);
-}
-
-pub(crate) fn refused(stdout: Stdout, n: u8) {
-    text(stdout, b" refused");
-    entry(stdout, n as u64);
+pub(crate) fn refused(rt: &impl Print, refusal: Refusal) -> io::Result<()> {
+    print!(rt; " refused {}", u8::from(refusal))
 }
 
 // Says so where an answer is not the one that is due.
-pub(crate) fn check(stdout: Stdout, answer: u8, due: u64) {
-    if answer as u64 != due {
-        text(stdout, b" BUT DUE IS");
-        entry(stdout, due);
+pub(crate) fn check(rt: &impl Print, answer: u8, due: u64) -> io::Result<()> {
+    if u64::from(answer) != due {
+        print!(rt; " BUT DUE IS {due}")?;
     }
+    Ok(())
 }
 
 // A line for each 20 bytes, with the number of its first record byte.
-pub(crate) fn lines(stdout: Stdout, bytes: &[u8]) {
-    let mut k = 0;
-    while k < bytes.len() {
+pub(crate) fn lines(rt: &impl Print, bytes: &[u8]) -> io::Result<()> {
+    for (k, byte) in bytes.iter().enumerate() {
         if k % 20 == 0 {
-            text(stdout, b"\n  byte");
-            entry(stdout, (k + 1) as u64);
-            text(stdout, b":");
+            print!(rt; "\n  byte {}:", k + 1)?;
         }
-        entry(stdout, octets::u8_at(bytes, k) as u64);
-        k = k + 1;
+        print!(rt; " {byte}")?;
     }
+    Ok(())
 }
 
-// A digest that is easy to work out again: it starts at 1, and each byte in turn makes (257 × digest + byte) mod 4,294,967,291 of it.
-pub(crate) fn digest(bytes: &[u8]) -> u64 {
-    let mut made = 1;
-    let mut k = 0;
-    while k < bytes.len() {
-        made = (made % 4294967291 * 257 + octets::u8_at(bytes, k) as u64) % 4294967291;
-        k = k + 1;
-    }
-    made
-}
-
-fn wide(n: u16) -> u64 {
-    n as u64
-}
-
-// The same, taken on by more numbers.
-pub(crate) fn digested(digest: u64, numbers: &[u16]) -> u64 {
+// A digest taken on by more numbers; it is easy to work out again. It starts at 1, and each number in turn makes (257 × digest + number) mod 4,294,967,291 of it.
+pub(crate) fn digested<T: Copy>(digest: u64, numbers: &[T]) -> u64
+where
+    u64: From<T>,
+{
     let mut made = digest;
-    let mut k = 0;
-    while k < numbers.len() {
-        made = (made % 4294967291 * 257 + wide(numbers[k]) % 65536) % 4294967291;
-        k = k + 1;
+    for number in numbers {
+        made = (made % 4_294_967_291 * 257 + u64::from(*number) % 4_294_967_291) % 4_294_967_291;
     }
     made
 }

@@ -1,9 +1,0 @@
--- At most all rows are passed.
-use Rattle.std.proofs.Common.{◌-◌, ◌≤◌}
-use Rattle.pedr_writer_vectors.proofs.run_all.Given as goal
-
-abbrev pub invariant-loop-i : goal.invariant-loop-i
-invariant-loop-i l = l.i ≤ l.n
-
-abbrev pub decreases-loop-i : goal.decreases-loop-i
-decreases-loop-i l = l.n - l.i

@@ -1,9 +1,0 @@
--- At most all bytes are passed.
-use Rattle.std.proofs.Common.{◌-◌, ◌≤◌, length}
-use Rattle.pedr_writer_vectors.proofs.show.lines.Given as goal
-
-abbrev pub invariant-loop-k : goal.invariant-loop-k
-invariant-loop-k l = l.k ≤ length l.bytes
-
-abbrev pub decreases-loop-k : goal.decreases-loop-k
-decreases-loop-k l = length l.bytes - l.k
