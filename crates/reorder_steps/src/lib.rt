@@ -16,7 +16,12 @@ use reorder_serve::Report;
 use reorder_session::Session;
 
 // Each of these makes one call. It promises what the call does, and that the call is the start, or a step, of a history.
-pub fn open_start(store: &mut [u8], packet: &[u8], threshold: u32, sum_word: u32) -> Stepped<Result<u32, Refusal>, Session>
+pub fn open_start(
+    store: &mut [u8],
+    packet: &[u8],
+    threshold: u32,
+    sum_word: u32,
+) -> Stepped<Result<u32, Refusal>, Session>
     ensures { Opens no_session store.old packet.now threshold sum_word (said result.answer) result.session store.new
         × IsStart (open_of no_session store.old packet.now threshold sum_word) packet.now
         result.session store.new (offer_tells (said result.answer) packet.now) }
@@ -38,7 +43,11 @@ pub fn open_or_start(
     reorder_offer::open_or(session, store, packet, threshold, sum_word)
 }
 
-pub fn offer_step(session: Session, store: &mut [u8], packet: &[u8]) -> Stepped<Result<u32, Refusal>, Session>
+pub fn offer_step(
+    session: Session,
+    store: &mut [u8],
+    packet: &[u8],
+) -> Stepped<Result<u32, Refusal>, Session>
     ensures { Offers session store.old packet.now (said result.answer) result.session store.new
         × IsStep single session store.old (offer packet.now)
         result.session store.new (offer_tells (said result.answer) packet.now) }
@@ -46,7 +55,11 @@ pub fn offer_step(session: Session, store: &mut [u8], packet: &[u8]) -> Stepped<
     reorder_offer::offer(session, store, packet)
 }
 
-pub fn serve_step(session: Session, out: &mut [u8], store: &[u8]) -> Stepped<Result<Turn, Refusal>, Session>
+pub fn serve_step(
+    session: Session,
+    out: &mut [u8],
+    store: &[u8],
+) -> Stepped<Result<Turn, Refusal>, Session>
     ensures { Serves session out.old store.now (said result.answer) result.session out.new
         × IsStep single session store.now (serve out.old)
         result.session store.now (serve_tells (said result.answer) out.new) }
@@ -54,7 +67,12 @@ pub fn serve_step(session: Session, out: &mut [u8], store: &[u8]) -> Stepped<Res
     reorder_serve::serve(session, out, store)
 }
 
-pub fn drain_step(session: Session, out: &mut [u8], store: &[u8], budget: u32) -> Stepped<Report, Session>
+pub fn drain_step(
+    session: Session,
+    out: &mut [u8],
+    store: &[u8],
+    budget: u32,
+) -> Stepped<Report, Session>
     ensures { DrainsReport session out.old store.now budget result.answer result.session out.new
         × IsStep single session store.now (drain out.old budget)
         result.session store.now (drain_tells (report_said result.answer) out.new) }
