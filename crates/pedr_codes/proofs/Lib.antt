@@ -1,2 +1,2 @@
-pub mod Mapped
+pub mod Each
 pub mod Proper

@@ -45,12 +45,12 @@ pub fn have_two_bits(encoders: &[Encoder; SHOTS]) -> bool
 pub fn class_numbers(classes: &[Class; SHOTS]) -> [u16; SHOTS]
     ensures { result ≡ map class_number classes.now }
 {
-    classes.map(u16::from)
+    std::array::from_fn(|k| u16::from(classes[k]))
 }
 
 // The bytes of 20 encoders' bits.
 pub fn encoder_bytes(encoders: &[Encoder; SHOTS]) -> [u8; SHOTS]
     ensures { result ≡ map encoder_byte encoders.now }
 {
-    encoders.map(pedr_flags_writer::encoder_byte)
+    std::array::from_fn(|k| pedr_flags_writer::encoder_byte(encoders[k]))
 }

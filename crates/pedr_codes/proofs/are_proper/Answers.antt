@@ -4,7 +4,7 @@ use Rattle.std.proofs.Common.{rules}
 use Rattle.std.proofs.lemmas.Iterator.{YieldsList-from_slice}
 use Rattle.std.proofs.lemmas.Iterator.Search.{all_from_yields_List}
 use Rattle.pedr_codes.specs.Codes.{is_proper}
-use Rattle.pedr_codes.proofs.Mapped.{each_list}
+use Rattle.pedr_codes.proofs.Each.{each_list}
 use Rattle.pedr_codes.proofs.are_proper.Goals as goal
 
 pub returns : goal.returns
