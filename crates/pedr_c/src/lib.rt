@@ -161,7 +161,7 @@ pub fn read_record(bytes: &[u8]) -> RecordNumbers
 fn classes_of(numbers: [u16; SHOTS]) -> [Class; SHOTS]
     ensures { result ≡ map class_of numbers }
 {
-    numbers.map(Class::from)
+    std::array::from_fn(|k| Class::from(numbers[k]))
 }
 
 fn shots_of(numbers: ShotNumbers) -> ShotArrays
