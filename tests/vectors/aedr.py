@@ -20,7 +20,8 @@ def check(data):
 
 def case_lines():
     """The files that aedr_cases names, and last an input of which nothing can be read."""
-    names = re.findall(r'\bfile\(rt, "(\w+)"\);', (CRATES / "aedr_cases/src/main.rt").read_text())
+    table = re.search(r"\bconst FILES: \[&str; \d+\] = \[(.*?)\];", (CRATES / "aedr_cases/src/main.rt").read_text(), re.S)[1]
+    names = re.findall(r'"(\w+)"', table)
     for name in names:
         checked, records = check((CRATES / "aedr_cases/data" / name).read_bytes())
         yield from [name, *checked, f"complete {records}"]

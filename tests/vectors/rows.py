@@ -9,7 +9,7 @@ import re
 
 CRATES = pathlib.Path(__file__).resolve().parents[2] / "crates"
 CONSTANT = re.compile(r"\bconst (\w+): (?:u64|usize) = ([^;\[\]]+);")
-TABLE = re.compile(r"\bconst (\w+): \[u64; (\w+)\] = (\[[^;\[\]]*\]);")
+TABLE = re.compile(r"\bconst (\w+): \[(?:u64|usize|u16); (\w+)\] = (\[[^;\[\]]*\]);")
 OPERATIONS = {ast.Add: operator.add, ast.Sub: operator.sub, ast.Mult: operator.mul}
 
 
