@@ -6,7 +6,6 @@ ghost use Rattle.reorder_c.specs.Calls.{OpensAs, OffersAs, ServesAs, DrainsAs, P
 
 use lent_record::Stepped;
 use reorder_c_answers::{Answer, Count, DESCRIPTION_NUMBERS};
-use reorder_rules::{MOST_ANSWERS, Turn};
 use reorder_session::Session;
 
 // Opens a session with this packet at position 0. A refused opening returns the session given.
@@ -85,7 +84,7 @@ pub fn drain(
 {
     let checked = reorder_turn::check_drain(session, store.len(), out.len(), budget);
     if checked.is_ok() && reorder_turn::waits(session) {
-        reorder_c_answers::put_descriptions([Turn::Waiting; MOST_ANSWERS], descriptions);
+        *descriptions = [0; DESCRIPTION_NUMBERS];
         return Stepped {
             answer: Count::default(),
             session,

@@ -49,4 +49,4 @@ returns-then-waits c =
       comes = comes_by k.comes said (ap (λ (o : Outcome Session (List Turn)). o.session) (sym q)) (ap (λ (o : Outcome Session (List Turn)). o.bytes) (sym q));
       count = omega arith;
     })
-    (record { count = λ i. record { refusal = c.default.ensures.0 i; count = c.default.ensures.1 i }; numbers = c.put_descriptions.ensures })
+    (record { count = λ i. record { refusal = c.default.ensures.0 i; count = c.default.ensures.1 i }; numbers = refl })
