@@ -121,6 +121,11 @@ module _ (s rest : List ℕ) (i n : ℕ) (e : rest ≡ drop i s) where
   pub rest_past : length rest ≤ n → rest ++ replicate (n - length rest) 0 ≡ octets_at s i n
   rest_past h = ap (λ (r : List ℕ). r ++ replicate (n - length rest) 0) (sym (take_all n rest h)) ∙ whole
 
+  -- whether they are there or not
+  pub rest_whole : octets_at rest 0 n ≡ octets_at s i n
+  unfolding octets_at
+  rest_whole = table_same n _ _ (λ k. let z : 0 + k ≡ k = omega arith in ap (λ (r : List ℕ). get_or r (0 + k) 0) e ∙ ap (λ (j : ℕ). get_or (drop i s) j 0) z ∙ get_or-drop i s k 0)
+
 -- a shorter run is the front of a longer one
 pub octets_front : (s : List ℕ) (i m n : ℕ) → m ≤ n → octets_at s i m ≡ take m (octets_at s i n)
 unfolding octets_at

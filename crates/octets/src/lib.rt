@@ -83,17 +83,34 @@ pub fn bytes_from(bytes: &[u8], i: usize) -> &[u8]
     bytes.get(i..).unwrap_or(&[])
 }
 
+// Fills out with as many bytes. No `copy_from_slice`: it calls the C library's `memmove`, and an archive for C is to need no name but `memcpy`.
+fn copy(bytes: &[u8], out: &mut [u8])
+    requires { length bytes.now ≡ length out.old }
+    ensures { out.new ≡ bytes.now }
+{
+    for (k, byte) in out.iter_mut().enumerate() {
+        *byte = bytes[k];
+    }
+}
+
+// Fills out with the bytes of source, and zeros behind them. No `fill`: it calls the C library's `memset`.
+fn copy_padded(source: &[u8], out: &mut [u8])
+    ensures { out.new ≡ octets_at source.now 0 (length out.old) }
+{
+    for (k, byte) in out.iter_mut().enumerate() {
+        *byte = u8_at(source, k);
+    }
+}
+
 // Fills out with the bytes from index i on.
 pub fn read_into(bytes: &[u8], i: usize, out: &mut [u8])
     ensures { out.new ≡ octets_at bytes.now i (length out.old) }
 {
     let source = bytes_from(bytes, i);
     if out.len() <= source.len() {
-        out.copy_from_slice(&source[..out.len()]);
+        copy(&source[..out.len()], out);
     } else {
-        let (read, past) = out.split_at_mut(source.len());
-        read.copy_from_slice(source);
-        past.fill(0);
+        copy_padded(source, out);
     }
 }
 
@@ -104,8 +121,8 @@ pub fn write_into(bytes: &[u8], i: usize, out: &mut [u8])
     let from = i.min(out.len());
     let room = out.len() - from;
     if bytes.len() <= room {
-        out[from..from + bytes.len()].copy_from_slice(bytes);
+        copy(bytes, &mut out[from..from + bytes.len()]);
     } else {
-        out[from..].copy_from_slice(&bytes[..room]);
+        copy(&bytes[..room], &mut out[from..]);
     }
 }

@@ -7,10 +7,10 @@ pub returns-then-bytes-room : goal.returns-then-bytes-room
 returns-then-bytes-room c =
     let a = c.args in
     let b = a.bytes.now in
-    store_cut b a.out.now _ a.i _ _ c.min-from.ensures (omega arith) (c.copy_from_slice.ensures.after ∙ sym (take_all _ b (omega arith)))
+    store_cut b a.out.now _ a.i _ _ c.min-from.ensures (omega arith) (c.copy.ensures ∙ sym (take_all _ b (omega arith)))
 
 pub returns-else-bytes-room : goal.returns-else-bytes-room
 returns-else-bytes-room c =
     let a = c.args in
     let b = a.bytes.now in
-    store_cut b a.out.now _ a.i _ _ c.min-from.ensures (omega arith) c.copy_from_slice-else-bytes-room.ensures.after
+    store_cut b a.out.now _ a.i _ _ c.min-from.ensures (omega arith) c.copy-else-bytes-room.ensures
