@@ -64,10 +64,11 @@ fn drain_turns(
         answer: reorder_c_answers::drained_count(report.answer),
         session: session.with_window(drained.session.window),
     };
-    let Ok(_) = report.answer else {
+    let Ok(count) = report.answer else {
         return counted;
     };
-    reorder_c_answers::put_descriptions(report.turns, descriptions);
+    let turns = report.turns;
+    reorder_c_answers::put_descriptions(&turns[..count as usize], descriptions);
     counted
 }
 

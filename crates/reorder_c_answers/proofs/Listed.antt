@@ -1,16 +1,17 @@
 -- Descriptions stored as numbers, one after the other.
-use Prim.Native.Nat.{ℕ, zero, suc, ◌+◌, ◌*◌, ◌<◌, ◌≤◌}
+use Prim.Native.Nat.{ℕ, zero, suc, ◌+◌, ◌-◌, ◌*◌, ◌<◌, ◌≤◌}
 use mathlib.Core.Path.{◌≡◌, refl, sym, ap, ◌∙◌}
 use mathlib.Core.List.{List, [], ◌∷◌, ◌++◌, map, append_assoc}
 use native.Mathlib.Numerals.{add-one}
 use native.Mathlib.Omega.{arith}
-use lib.ListN.{length, get_or, take, length-append}
+use lib.ListN.{length, get_or, take, drop, replicate, length-append, length-map}
+use Rattle.std.proofs.lemmas.List.{drop-replicate, length-replicate}
 use lib.Seq.{take-suc, take_all, length-take-le}
 use Rattle.octets.specs.Bytes.{put}
-use Rattle.octets.proofs.Store.{put_then, put_nothing, put_length, put_whole}
+use Rattle.octets.proofs.Store.{put_then, put_nothing, put_length, put_splice}
 use Rattle.reorder_turn.specs.declared.Description.{Description}
 use Rattle.reorder_rules.specs.declared.Turn.{Turn}
-use Rattle.reorder_turn.specs.Described.{no_description, described}
+use Rattle.reorder_turn.specs.Described.{no_description, described, described_all}
 use Rattle.reorder_c_answers.specs.Listed.{listed}
 
 -- the description of the answer at an index within the list
@@ -29,14 +30,14 @@ listed_length (d ∷ ds) = let e : length (listed ds) ≡ 2 * length ds = listed
 
 -- the loop's invariant: of the descriptions, i stand in the numbers
 abbrev pub Stored : List Description → List ℕ → List ℕ → ℕ → Type 0
-Stored ds old l i = (i ≤ 32) × (l ≡ put old 0 (listed (take i ds)))
+Stored ds old l i = (i ≤ length ds) × (l ≡ put old 0 (listed (take i ds)))
 
 pub stored_none : (ds : List Description) (old : List ℕ) → Stored ds old old 0
 stored_none ds old = (omega arith, sym (put_nothing old 0))
 
-pub stored_more : (ds : List Description) (old l : List ℕ) (i : ℕ) → i < 32 → length ds ≡ 32 → Stored ds old l i
+pub stored_more : (ds : List Description) (old l : List ℕ) (i : ℕ) → i < length ds → Stored ds old l i
     → Stored ds old (put (put l (2 * i) ((get_or ds i no_description).kind ∷ [])) (2 * i + 1) ((get_or ds i no_description).position ∷ [])) (i + 1)
-stored_more ds old l i h k s =
+stored_more ds old l i h s =
     let d : Description = get_or ds i no_description in
     let t : List Description = take i ds in
     let n : length (listed t) ≡ 2 * i = listed_length t ∙ ap (λ (k : ℕ). 2 * k) (length-take-le i ds (omega arith)) in
@@ -52,9 +53,23 @@ stored_more ds old l i h k s =
 pub stored_length : (ds : List Description) (old l : List ℕ) (i : ℕ) → Stored ds old l i → length l ≡ length old
 stored_length ds old l i s = ap length s.1 ∙ put_length old 0 (listed (take i ds))
 
--- all 32 are the 64 numbers
-pub stored_all : (ds : List Description) (old l : List ℕ) (i : ℕ) → 32 ≤ i → length ds ≡ 32 → length old ≡ 64 → Stored ds old l i → l ≡ listed ds
-stored_all ds old l i h k n s =
+-- what describes nothing is zeros
+listed_none : (n : ℕ) → listed (replicate n no_description) ≡ replicate (2 * n) 0
+listed_none zero = refl
+listed_none (suc n) = ap (λ (l : List ℕ). 0 ∷ 0 ∷ l) (listed_none n) ∙ ap (λ (k : ℕ). replicate k 0) {x = suc (suc (2 * n))} (omega arith)
+
+-- all of at most 32 descriptions, stored over zeros, are the 64 numbers
+pub stored_all : (ts : List Turn) (l : List ℕ) (i : ℕ) → length ts ≤ 32 → length ts ≤ i → Stored (map described ts) (replicate 64 0) l i
+    → l ≡ listed (described_all ts)
+unfolding described_all
+stored_all ts l i k h s =
+    let ds : List Description = map described ts in
+    let n : length ds ≡ length ts = length-map ts described in
+    let m : length (listed ds) ≡ 2 * length ts = listed_length ds ∙ ap (λ (k : ℕ). 2 * k) n in
     s.1
-    ∙ ap (λ (z : List Description). put old 0 (listed z)) (take_all i ds (omega arith))
-    ∙ put_whole old (listed ds) (omega (arith, listed_length ds))
+    ∙ ap (λ (z : List Description). put (replicate 64 0) 0 (listed z)) (take_all i ds (omega arith))
+    ∙ put_splice (replicate 64 0) (listed ds) 0 (omega (arith, length-replicate {A = ℕ} 64 0))
+    ∙ ap (λ (z : List ℕ). listed ds ++ z) (drop-replicate {X = ℕ} (0 + length (listed ds)) 64 0
+      ∙ ap (λ (k : ℕ). replicate k 0) {y = 2 * (32 - length ts)} (omega arith)
+      ∙ sym (listed_none (32 - length ts)))
+    ∙ sym (listed_append ds (replicate (32 - length ts) no_description))

@@ -1,17 +1,18 @@
 -- The numbers of an answer stand for what was said, since no refusal is 0.
-use Prim.Native.Nat.{ℕ, zero, suc, ◌-◌}
+use Prim.Native.Nat.{ℕ, zero, suc, ◌+◌, ◌-◌, ◌≤◌}
 use mathlib.Core.Path.{◌≡◌, refl, sym, ap, ◌∙◌, subst}
 use mathlib.Core.List.{List, [], ◌∷◌, ◌++◌, map}
 use native.Mathlib.Omega.{arith}
-use lib.ListN.{length, replicate}
+use lib.ListN.{length, replicate, take, length-append}
+use lib.Seq.{take_all, take-append_seam}
+use Rattle.std.proofs.lemmas.List.{length-replicate}
 use Rattle.octets.specs.Refusal.{Said, refused, answered, say}
 use Rattle.reorder_rules.specs.Outcome.{Outcome, ComesTo}
 use Rattle.reorder_rules.specs.declared.Turn.{Turn}
 use Rattle.reorder_rules.specs.declared.Turn.TheVariants.{Packet, Missing, Waiting}
 use Rattle.reorder_rules.proofs.Said.{comes_by}
 use Rattle.reorder_rules.proofs.Numbered.{Numbered}
-use Rattle.reorder_turn.specs.Described.{no_description, described, described_all}
-use Rattle.reorder_turn.proofs.Turns.{described_places}
+use Rattle.reorder_turn.specs.Described.{no_description, described, described_all, in_places}
 use Rattle.reorder_serve.specs.Report.{counted, places}
 use Rattle.reorder_c_answers.specs.Listed.{listed}
 use Rattle.reorder_c_answers.proofs.Listed.{listed_append}
@@ -81,9 +82,24 @@ pub numbers_stay : (x : Said (List Turn)) (d : List ℕ) (n : ℕ) → counted x
 numbers_stay (refused m) d n e = refl
 numbers_stay (answered ts) d n e = let z : ◌≡◌ {A = ℕ} 0 1 = cc in absurd (omega arith)
 
-pub numbers_listed : (x : Said (List Turn)) (d : List ℕ) (k : ℕ) → counted x ≡ answered k → listed (map described (places x)) ≡ tabled x d
-numbers_listed (refused n) d k e = let z : ◌≡◌ {A = ℕ} 0 1 = cc in absurd (omega arith)
-numbers_listed (answered ts) d k e = ap listed (described_places ts)
+-- as many of the 32 places as are counted hold the answers
+places_count : (ts : List Turn) → length (places (answered ts)) ≡ length ts + (32 - length ts)
+unfolding in_places
+places_count ts = length-append ts _ ∙ ap (λ (k : ℕ). length ts + k) (length-replicate (32 - length ts) Waiting)
+
+places_first : (ts : List Turn) → take (length ts) (places (answered ts)) ≡ ts
+unfolding in_places
+places_first ts = take-append_seam ts _
+
+pub numbers_listed : (x : Said (List Turn)) (d : List ℕ) (k : ℕ) → counted x ≡ answered k → length (places x) ≡ 32
+    → listed (described_all (take 32 (take k (places x)))) ≡ tabled x d
+numbers_listed (refused n) d k e h = let z : ◌≡◌ {A = ℕ} 0 1 = cc in absurd (omega arith)
+numbers_listed (answered ts) d k e h =
+    let q : length ts ≡ k = cc in
+    let n : length ts ≤ 32 = omega (arith, places_count ts) in
+    ap (λ (k : ℕ). listed (described_all (take 32 (take k (places (answered ts)))))) (sym q)
+    ∙ ap (λ (ts : List Turn). listed (described_all (take 32 ts))) (places_first ts)
+    ∙ ap (λ (ts : List Turn). listed (described_all ts)) (take_all 32 ts n)
 
 -- what holds of what is said holds of what the numbers stand for
 pub drain_told : (P : Said (List Turn) → Type 0) (x : Said (List Turn)) (r : Count) (d e : List ℕ) → Numbered x → P x → Tells r d e x

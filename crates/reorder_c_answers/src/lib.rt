@@ -2,9 +2,10 @@
 // have no such enums and structs.
 #![tactic(auto)]
 
-ghost use Rattle.std.specs.Prelude.{◌≡◌, map};
+ghost use Rattle.std.specs.Prelude.{◌≡◌, take};
 ghost use Rattle.refusal.specs.Number.{number, said};
-ghost use Rattle.reorder_turn.specs.Described.{described};
+ghost use Rattle.reorder_rules.specs.Sizes.{positions};
+ghost use Rattle.reorder_turn.specs.Described.{described_all};
 ghost use Rattle.reorder_c_answers.specs.Listed.{listed};
 ghost use Rattle.reorder_c_answers.specs.Answers.{refused_answer, turn_answer, held_answer, served_answer, passed_answer, drained_count};
 
@@ -100,12 +101,14 @@ pub fn drained_count(answer: Result<u32, Refusal>) -> Count
 // How many numbers describe the answers of a drain: a kind and a position for each that it can give.
 pub const DESCRIPTION_NUMBERS: usize = 2 * MOST_ANSWERS;
 
-// Stores the kind and the position of each answer's description. They are lent as a slice, whose length is known.
-pub fn put_descriptions(turns: [Turn; MOST_ANSWERS], out: &mut [u32; DESCRIPTION_NUMBERS])
-    ensures { out.new ≡ listed (map described turns) }
+// Stores the kind and the position of each answer's description, of the first 32, and zeros behind them. They are lent as a slice, whose length is known.
+pub fn put_descriptions(turns: &[Turn], out: &mut [u32; DESCRIPTION_NUMBERS])
+    ensures { out.new ≡ listed (described_all (take positions turns.now)) }
 {
+    *out = [0; DESCRIPTION_NUMBERS];
     let numbers = &mut out[..];
-    for (i, turn) in turns.iter().enumerate() {
+    let first = &turns[..MOST_ANSWERS.min(turns.len())];
+    for (i, turn) in first.iter().enumerate() {
         let description = Description::from(*turn);
         numbers[2 * i] = description.kind;
         numbers[2 * i + 1] = description.position;

@@ -1,7 +1,9 @@
 -- What `drain` promises, of the numbers, with what then stands in the lent numbers.
 use Prim.Native.Nat.{ℕ}
 use mathlib.Core.Path.{◌≡◌, refl, sym, ap, ◌∙◌}
-use mathlib.Core.List.{List, map}
+use mathlib.Core.List.{List}
+use borrow.Author.Rules.{rules}
+use lib.ListN.{length, take}
 use Rattle.octets.specs.Refusal.{Said}
 use Rattle.refusal.specs.Number.{said}
 use Rattle.reorder_rules.specs.declared.Turn.{Turn}
@@ -10,7 +12,7 @@ use Rattle.reorder_rules.proofs.Numbered.{drain_numbered}
 use Rattle.reorder_session.specs.declared.Session.{Session}
 use Rattle.reorder_session.specs.Session.{single}
 use Rattle.reorder_session.specs.Calls.{Drains}
-use Rattle.reorder_turn.specs.Described.{described}
+use Rattle.reorder_turn.specs.Described.{described_all}
 use Rattle.reorder_serve.specs.Report.{report_said, counted, places}
 use Rattle.reorder_c_answers.specs.Listed.{listed}
 use Rattle.reorder_c_answers.specs.Answers.{drained_count, tabled, turns_said, Tells}
@@ -48,7 +50,9 @@ returns-in_default c =
 pub returns : goal.returns
 returns c =
     let d = (goal.at.returns c).After-with_window in
+    let r = d.drain-drained.result.answer in
+    let n : length r.turns ≡ 32 = search rules in
     told d _
     (c.put_descriptions.ensures
-    ∙ ap (λ (ts : List Turn). listed (map described ts)) {y = places (due d)} c.drain-drained.ensures.1.turns
-    ∙ numbers_listed (due d) c.args.descriptions.now _ (sym (count_is d) ∙ ap said c.in-Ok.is))
+    ∙ ap (λ (ts : List Turn). listed (described_all (take 32 (take c.in-Ok.count ts)))) {y = places (due d)} c.drain-drained.ensures.1.turns
+    ∙ numbers_listed (due d) c.args.descriptions.now _ (sym (count_is d) ∙ ap said c.in-Ok.is) (ap length (sym c.drain-drained.ensures.1.turns) ∙ n))

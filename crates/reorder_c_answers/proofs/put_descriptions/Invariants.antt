@@ -5,4 +5,4 @@ use Rattle.reorder_c_answers.proofs.Listed.{Stored}
 use Rattle.reorder_c_answers.proofs.put_descriptions.Given as goal
 
 abbrev pub invariant-loop-i : goal.invariant-loop-i
-invariant-loop-i l = Stored (map described l.turn-items) l.initial.numbers l.numbers l.i
+invariant-loop-i l = Stored (map described l.first) l.initial.numbers l.numbers l.i
