@@ -4,7 +4,7 @@
 
 ghost use Rattle.std.specs.Prelude.{◌≡◌, ◌+◌, ◌*◌, ◌≤◌, length};
 ghost use Rattle.octets.specs.Bytes.{put};
-ghost use Rattle.octets.specs.Table.{octets_at};
+ghost use Rattle.octets.specs.Table.{octets_at, octets_of_all};
 
 use octets::{Word, has_run};
 
@@ -48,4 +48,11 @@ pub fn write_run<W: Word>(numbers: &[W], i: usize, out: &mut [u8])
     } else {
         write_run_past(numbers, i, out);
     }
+}
+
+// Stores numbers of 8 bits, one after the other, from index i on. They are copied, since `write_run` would store them one by one.
+pub fn write_u8s(numbers: &[u8], i: usize, out: &mut [u8])
+    ensures { out.new ≡ put out.old i (octets_of_all 1 numbers.now) }
+{
+    octets::write_into(numbers, i, out);
 }

@@ -6,7 +6,7 @@ ghost use Rattle.octets.specs.Bytes.{put};
 ghost use Rattle.layout.specs.Column.{join};
 ghost use Rattle.pedr_segments.specs.Parts as parts;
 
-use octets_runs_writer::write_run;
+use octets_runs_writer::{write_run, write_u8s};
 use octets_writer::{write_i16, write_i32, write_u16, write_u32, write_u64};
 use pedr_arrays::{ChannelArrays, RecordArrays, ShotArrays};
 use pedr_fields::RecordFields;
@@ -57,7 +57,7 @@ pub fn put_pulses(shots: &ShotArrays, out: &mut [u8])
 {
     write_run(&shots.energy, ENERGY_AT, out);
     write_run(&shots.reflectivity, REFLECTIVITY_AT, out);
-    write_run(&shots.trigger_channel, TRIGGER_CHANNEL_AT, out);
+    write_u8s(&shots.trigger_channel, TRIGGER_CHANNEL_AT, out);
     write_run(&shots.pulse_width, PULSE_WIDTH_AT, out);
     write_run(&shots.optical_width, OPTICAL_WIDTH_AT, out);
 }

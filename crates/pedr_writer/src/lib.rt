@@ -9,7 +9,7 @@ ghost use Rattle.pedr_writer.specs.Record.{tail_parts, record_of};
 ghost use Rattle.pedr_writer.specs.Write.{write_due, write_bytes};
 
 use octets::write_into;
-use octets_runs_writer::write_run;
+use octets_runs_writer::write_u8s;
 use pedr_flags::Encoder;
 use pedr_layout::{
     ENCODER_AT, SHOTS, UNINTERPRETED_537_AT, UNINTERPRETED_641_AT, UNINTERPRETED_BEFORE,
@@ -25,7 +25,7 @@ fn put_tail(encoders: &[Encoder; SHOTS], uninterpreted: &[u8], out: &mut [u8])
 {
     let (before, after) = uninterpreted.split_at(UNINTERPRETED_BEFORE);
     write_into(before, UNINTERPRETED_537_AT, out);
-    write_run(&pedr_codes::encoder_bytes(encoders), ENCODER_AT, out);
+    write_u8s(&pedr_codes::encoder_bytes(encoders), ENCODER_AT, out);
     write_into(after, UNINTERPRETED_641_AT, out);
 }
 

@@ -15,9 +15,9 @@ returns c =
           puts_join (pulse_parts s) pulse_columns 144 324 refl fit
           (c.write_run.ensures
           ▸ c.write_run-2.ensures
+          ▸ c.write_u8s.ensures
           ▸ c.write_run-3.ensures
           ▸ c.write_run-4.ensures
-          ▸ c.write_run-5.ensures
           ▸ stop);
       size = sized (pulse_parts s) pulse_columns 144 180 324 refl refl fit;
     }

@@ -15,7 +15,7 @@ returns c =
       stored =
           puts_join (tail_parts es x) tail_columns 536 776 refl fit
           (rw c.split_at.ensures.front at c.write_into.ensures
-          ▸ rw c.encoder_bytes.ensures at c.write_run.ensures
+          ▸ rw c.encoder_bytes.ensures at c.write_u8s.ensures
           ▸ rw c.split_at.ensures.back at c.write_into-2.ensures
           ▸ stop);
       size = sized (tail_parts es x) tail_columns 536 240 776 refl refl fit;
