@@ -1,11 +1,12 @@
 -- Laws of what a read makes of a chunk.
-use Rattle.std.proofs.Common.{◌≡◌, ℕ, ◌+◌, ◌≤◌, List, [], ◌++◌, take, length, Option, None, Some, Result, Ok, Err, append_assoc, refl, ap, sym, ◌∙◌, arith}
+use Rattle.std.proofs.Common.{◌≡◌, ℕ, ◌+◌, ◌<◌, ◌≤◌, List, [], ◌++◌, take, length, Option, None, Some, Result, Ok, Err, Continue, append_assoc, refl, ap, sym, ◌∙◌, arith}
+use Rattle.std.proofs.lemmas.Bool.Decides.{nat_tests}
 use Rattle.std.proofs.lemmas.List.{take-append-le}
 use Rattle.std.proofs.Math.Seq.{take-append-add}
-use Rattle.std.specs.Io.KnownBytes.{Keeps, Consumes}
+use Rattle.std.specs.Io.KnownBytes.{Keeps, Consumes, ReadConsumes}
 use Rattle.program_input.specs.declared.Chunk.{Chunk}
 use Rattle.program_input.specs.declared.Chunk.TheVariants.{Full, Last}
-use Rattle.program_input.specs.Chunk.{ChunkWithin, chunk_bytes}
+use Rattle.program_input.specs.Chunk.{after_read, ChunkWithin, chunk_bytes}
 
 -- known bytes of which none are taken, and of which one part is after another
 pub consumes_none : (old : Option (List ℕ)) → Consumes old old []
@@ -28,6 +29,18 @@ pub count_fits : {E : Type 0} (chunk : Result Chunk E) (room : ℕ) → ChunkWit
 count_fits (Err e) room h = omega arith
 count_fits (Ok (Full n)) room h = omega arith
 count_fits (Ok (Last n)) room h = omega arith
+
+-- what a read that another follows did: it took the bytes up to that one, and left room
+pub record GoesOn (count room next : ℕ) (mid new : Option (List ℕ)) (rest : List ℕ) : Type 0 where
+  pub more : ℕ
+  pub next_is : next ≡ count + more
+  pub room_left : next < room
+  pub bytes : Consumes mid new (take more rest)
+
+pub goes_on : {E : Type 0} (got : Result ℕ E) (count room next : ℕ) (mid new : Option (List ℕ)) (rest : List ℕ) → Continue next ≡ after_read count got room
+    → ReadConsumes mid new got rest → GoesOn count room next mid new rest
+goes_on (Err e) count room next mid new rest h k = cc
+goes_on (Ok n) count room next mid new rest h k = record { more = n; next_is = grind (arith, nat_tests); room_left = grind (arith, nat_tests); bytes = k.0 }
 
 -- one read more, into the part of the buffer after the bytes so far
 pub read_more : (old mid new : Option (List ℕ)) (head rest tail : List ℕ) (count n : ℕ) → count ≡ length head → n ≤ length rest → Consumes old mid head

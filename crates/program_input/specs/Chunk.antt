@@ -1,8 +1,16 @@
 -- What the reads of a chunk make of it.
-use Rattle.std.specs.Prelude.{ℕ, ◌<◌, ◌≡◌, List, take, Option, Result, Ok, Err}
+use Rattle.std.specs.Prelude.{ℕ, ◌+◌, ◌<◌, ◌≡◌, cond, eqb, ltb, List, take, Option, Result, Ok, Err}
+use Rattle.std.specs.declared.ops.ControlFlow.{ControlFlow}
+use Rattle.std.specs.declared.ops.ControlFlow.TheVariants.{Continue, Break}
 use Rattle.std.specs.Io.KnownBytes.{Consumes, IsAtEnd}
 use Rattle.program_input.specs.declared.Chunk.{Chunk}
 use Rattle.program_input.specs.declared.Chunk.TheVariants.{Full, Last}
+
+-- What follows a read after `count` bytes, in a buffer of `room` bytes: a failed one ends the chunk as a failure, one of no byte has found the end of the input,
+-- so that the chunk is the last, with the bytes before it; after any other the chunk is full where its bytes reach the room, and else another read follows.
+abbrev pub after_read : {E : Type 0} → ℕ → Result ℕ E → ℕ → ControlFlow (Result Chunk E) ℕ
+after_read count (Err e) room = Break (Err e)
+after_read count (Ok n) room = cond (eqb n 0) (Break (Ok (Last count))) (cond (ltb (count + n) room) (Continue (count + n)) (Break (Ok (Full (count + n)))))
 
 -- a full chunk has all the bytes of the buffer, and the input's last leaves room
 abbrev pub ChunkWithin : {E : Type 0} → ℕ → Result Chunk E → Type 0
