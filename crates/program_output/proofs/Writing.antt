@@ -1,12 +1,14 @@
 -- Laws of what a write makes of a text.
-use Rattle.std.proofs.Common.{◌≡◌, ℕ, ◌+◌, ◌-◌, List, [], ◌++◌, take, drop, length, Option, None, Some, Result, Ok, Err, true, ◌≤◌, refl, append_assoc, ap, sym, ◌∙◌, arith, length-drop}
+use Rattle.std.proofs.Common.{◌≡◌, ℕ, ◌+◌, ◌-◌, ◌<◌, List, [], ◌++◌, take, drop, length, Option, None, Some, Result, Ok, Err, Continue, true, ◌≤◌, refl, append_assoc, ap, sym, ◌∙◌, arith, length-drop}
 use lib.Seq.{take_all}
 use Rattle.std.proofs.lemmas.List.{append-nil}
+use Rattle.std.proofs.lemmas.Bool.Decides.{nat_tests}
 use Rattle.std.proofs.Math.Seq.{take-add}
 use mathlib.Core.Bool.{false≢true}
 use Rattle.std.specs.Io.KnownBytes.{Appends}
+use Rattle.std.specs.declared.io.Error.{Error}
 use Rattle.program_output.specs.declared.Unwritten.{Unwritten}
-use Rattle.program_output.specs.Written.{TextWritten, text_taken, is_whole}
+use Rattle.program_output.specs.Written.{bytes_taken, after_write, TextWritten, text_taken, is_whole}
 
 -- known bytes that grow by none, and by one part after another
 pub appends_none : (old : Option (List ℕ)) → Appends old old []
@@ -26,6 +28,11 @@ rest text m = take_all (length text - m) (drop m text) (rw length-drop (omega ar
 pub appends_more : (old mid new : Option (List ℕ)) (text : List ℕ) (m n : ℕ) → Appends old mid (take m text)
     → Appends mid new (take n (take (length text - m) (drop m text))) → Appends old new (take (m + n) text)
 appends_more old mid new text m n h k = rw take-add (appends_both old mid new _ _ h (rw (rest text m) at k))
+
+-- a write that another follows took the bytes up to that one, and left some
+pub goes_on : (wrote : Result ℕ Error) (taken size count : ℕ) → Continue count ≡ after_write taken wrote size → (count ≡ taken + bytes_taken wrote) × (count < size)
+goes_on (Err e) taken size count h = cc
+goes_on (Ok n) taken size count h = grind (arith, nat_tests)
 
 -- how many bytes of a text its writes took: the first of them, never more than there are, and all of a text that was written whole
 abbrev pub taken_size : Result Unit Unwritten → List ℕ → ℕ

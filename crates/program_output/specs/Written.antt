@@ -1,5 +1,8 @@
 -- What the answers of writes mean, and what they make of a text.
-use Rattle.std.specs.Prelude.{ℕ, ◌<◌, ◌≤◌, min, Bool, true, false, cond, eqb, List, take, Option, Some, None, Result, Ok, Err, IfOk}
+use Rattle.std.specs.Prelude.{ℕ, ◌+◌, ◌<◌, ◌≤◌, min, Bool, true, false, cond, eqb, ltb, List, take, Option, Some, None, Result, Ok, Err, IfOk}
+use Rattle.std.specs.declared.ops.ControlFlow.{ControlFlow}
+use Rattle.std.specs.declared.ops.ControlFlow.TheVariants.{Continue, Break}
+use Rattle.std.specs.declared.io.Error.{Error}
 use Rattle.std.specs.Io.KnownBytes.{Appends}
 use Rattle.program_output.specs.declared.Unwritten.{Unwritten}
 
@@ -16,6 +19,12 @@ WroteWithin size wrote = IfOk wrote (λ n. (0 < n) × (n ≤ size))
 abbrev pub bytes_taken : {E : Type 0} → Result ℕ E → ℕ
 bytes_taken (Err e) = 0
 bytes_taken (Ok n) = n
+
+-- What follows a write after `taken` bytes, of a text of `size` bytes: none after a failed one, which leaves the bytes before it and the failure; none where the
+-- bytes that were taken reach the size, for the text is whole; and else another.
+abbrev pub after_write : ℕ → Result ℕ Error → ℕ → ControlFlow (Result Unit Unwritten) ℕ
+after_write taken (Err e) size = Break (Err (record { taken = taken; error = e }))
+after_write taken (Ok n) size = cond (ltb (taken + n) size) (Continue (taken + n)) (Break (Ok tt))
 
 -- A text of `size` bytes was taken whole, or a write failed after fewer bytes.
 abbrev pub TextWritten : Result Unit Unwritten → ℕ → Type 0

@@ -1,5 +1,5 @@
-// Writing the text of a program. The call stands in `write_once` alone, and what its answer means in a function with an equation. A failure is told on
-// standard error by the name of the call and the system's text, as `write: Broken pipe`.
+// Writing the text of a program. The call stands in `write_once` alone, and what its answer means and makes of a text in functions with an equation: the loop in
+// `write` only passes values on. A failure is told on standard error by the name of the call and the system's text, as `write: Broken pipe`.
 //
 // `print` and `print_error` promise that the bytes which a writer got are the first of the text, as many as its writes took. Standard output is a writer of which
 // no contract can say what it got. So this stays unproved, and tests/program.rs runs a program on outputs that fail:
@@ -7,16 +7,17 @@
 // - that a failure is told on standard error.
 #![tactic(auto)]
 
-ghost use Rattle.std.specs.Prelude.{◌≡◌, length, take};
+ghost use Rattle.std.specs.Prelude.{◌≡◌, ◌+◌, ◌≤◌, length, take};
 ghost use Rattle.std.specs.Result.{result_ok};
 ghost use Rattle.std.specs.Io.KnownBytes.{Appends};
-ghost use Rattle.program_output.specs.Written.{write_meaning, WroteWithin, bytes_taken, TextWritten, text_taken};
+ghost use Rattle.program_output.specs.Written.{write_meaning, WroteWithin, bytes_taken, after_write, TextWritten, text_taken};
 
 mod failure;
 
 pub use failure::fail;
 use std::io;
 use std::io::Write;
+use std::ops::ControlFlow;
 
 // A text that was not written whole: how many of its bytes were taken, and how the write after them failed.
 #[derive(Clone, Copy)]
@@ -46,6 +47,22 @@ fn write_once<W: Write>(out: &mut W, rest: &[u8]) -> io::Result<usize>
     write_meaning(got, rest)
 }
 
+// What follows a write after `taken` bytes, of a text of `size` bytes: another, after so many bytes, or none.
+fn after_write(
+    taken: usize,
+    wrote: io::Result<usize>,
+    size: usize,
+) -> ControlFlow<Result<(), Unwritten>, usize>
+    requires { taken + bytes_taken wrote ≤ size }
+    ensures { result ≡ after_write taken wrote size }
+{
+    match wrote {
+        Err(error) => ControlFlow::Break(Err(Unwritten { taken, error })),
+        Ok(more) if taken + more < size => ControlFlow::Continue(taken + more),
+        Ok(_) => ControlFlow::Break(Ok(())),
+    }
+}
+
 // Writes until all of the text is taken or a write fails. An empty text needs no write.
 fn write<W: Write>(out: &mut W, text: &[u8]) -> Result<(), Unwritten>
     ensures written { TextWritten result (length text.now) }
@@ -54,9 +71,10 @@ fn write<W: Write>(out: &mut W, text: &[u8]) -> Result<(), Unwritten>
     let mut taken = 0;
     // No `write_all`: after a failure it says nothing of the bytes that were taken. No `for`: how many writes a text needs shows only as they answer.
     while taken < text.len() {
-        match write_once(out, &text[taken..]) {
-            Ok(more) => taken += more,
-            Err(error) => return Err(Unwritten { taken, error }),
+        let wrote = write_once(out, &text[taken..]);
+        match after_write(taken, wrote, text.len()) {
+            ControlFlow::Continue(count) => taken = count,
+            ControlFlow::Break(written) => return written,
         }
     }
     Ok(())
