@@ -1,5 +1,5 @@
 -- What the answers of writes mean, and what they make of a text.
-use Rattle.std.specs.Prelude.{ℕ, ◌+◌, ◌<◌, ◌≤◌, min, Bool, true, false, cond, eqb, ltb, List, take, Option, Some, None, Result, Ok, Err, IfOk}
+use Rattle.std.specs.Prelude.{ℕ, ◌+◌, ◌<◌, ◌≤◌, min, Bool, true, false, cond, eqb, ltb, List, ◌++◌, take, Option, Some, None, Result, Ok, Err, IfOk}
 use Rattle.std.specs.declared.ops.ControlFlow.{ControlFlow}
 use Rattle.std.specs.declared.ops.ControlFlow.TheVariants.{Continue, Break}
 use Rattle.std.specs.declared.io.Error.{Error}
@@ -35,6 +35,12 @@ TextWritten (Err e) size = e.taken < size
 abbrev pub text_taken : Result Unit Unwritten → List ℕ → List ℕ
 text_taken (Ok whole) text = text
 text_taken (Err e) text = take e.taken text
+
+-- What printing a text to standard error did to the known bytes: all of it came behind them and nothing else, or, where a write failed, the bytes that were taken,
+-- with some that tell the failure behind these.
+abbrev pub AppendsText : Option (List ℕ) → Option (List ℕ) → Result Unit Unwritten → List ℕ → Type 0
+AppendsText old new (Ok whole) text = Appends old new text
+AppendsText old new (Err e) text = (told : List ℕ) × Appends old new (take e.taken text ++ told)
 
 -- known bytes stay, and some come behind them
 abbrev pub Grows : Option (List ℕ) → Option (List ℕ) → Type 0

@@ -1,8 +1,8 @@
 // Writing the text of a program. The call stands in `write_once` alone, and what its answer means and makes of a text in functions with an equation: the loop in
 // `write` only passes values on. A failure is told on standard error by the name of the call and the system's text, as `write: Broken pipe`.
 //
-// `print` and `print_error` promise that the bytes which a writer got are the first of the text, as many as its writes took. Standard output is a writer of which
-// no contract can say what it got. So this stays unproved, and tests/program.rs runs a program on outputs that fail:
+// `print` and `print_error` promise that the bytes which a writer got are the first of the text, as many as its writes took; behind them `print_error` tells a
+// failure. Standard output is a writer of which no contract can say what it got. So this stays unproved, and tests/program.rs runs a program on outputs that fail:
 // - that the bytes which standard output took are those that come out of the program;
 // - that a failure is told on standard error.
 #![tactic(auto)]
@@ -10,7 +10,7 @@
 ghost use Rattle.std.specs.Prelude.{◌≡◌, ◌+◌, ◌≤◌, length, take};
 ghost use Rattle.std.specs.Result.{result_ok};
 ghost use Rattle.std.specs.Io.KnownBytes.{Appends};
-ghost use Rattle.program_output.specs.Written.{write_meaning, WroteWithin, bytes_taken, after_write, TextWritten, text_taken};
+ghost use Rattle.program_output.specs.Written.{write_meaning, WroteWithin, bytes_taken, after_write, TextWritten, text_taken, AppendsText};
 
 mod failure;
 
@@ -94,7 +94,8 @@ pub fn print<W: Write, E: Write>(out: &mut W, errors: &mut E, text: &[u8]) -> Re
 
 // Writes the text to standard error. A failure is told there too.
 pub fn print_error<E: Write>(errors: &mut E, text: &[u8]) -> Result<(), Unwritten>
-    ensures { TextWritten result (length text.now) }
+    ensures written { TextWritten result (length text.now) }
+    ensures bytes { AppendsText (E.contents errors.old) (E.contents errors.new) result text.now }
 {
     let printed = write(errors, text);
     if let Err(unwritten) = printed {
