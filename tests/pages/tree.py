@@ -15,7 +15,7 @@ HISTORIES = 'crates/reorder_vectors/src/*.rt'
 FILES = 'aedr_cases'
 COMPARISON = 'tests/compare.rs'
 
-# Groups of crates.txt whose crates are programs; the others are libraries.
+# Groups of crates.txt whose crates are programs, or what only these use; the others are libraries.
 PROGRAM_GROUPS = ('programs', 'tests')
 
 # Programs that a user has to have, and the words that rt takes first.

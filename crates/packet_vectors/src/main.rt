@@ -11,6 +11,7 @@ mod writes;
 
 use packet_layout::PUBLISHED_SUM_WORD;
 use std::io;
+use vectors_output::LeavesOut;
 
 // A heading, and a line for each row of a table.
 fn run<T: Copy, F: Fn(usize, T) -> io::Result<()>>(
@@ -36,41 +37,42 @@ fn refused_word(rt: &impl Print, i: usize, word: usize) -> io::Result<()> {
 }
 
 fn main(rt: HostRuntime) -> io::Result<()> {
-    reads::legend(&rt)?;
+    let out = LeavesOut { output: rt };
+    reads::legend(&out)?;
     run(
-        &rt,
+        &out,
         "reads",
         &tables::READS,
-        |i, row| reads::read(&rt, i, row),
+        |i, row| reads::read(&out, i, row),
     )?;
     run(
-        &rt,
+        &out,
         "reads at words 53, 70 and 539",
         &tables::CHECKS,
-        |i, row| reads::read_at_three_words(&rt, i, row),
+        |i, row| reads::read_at_three_words(&out, i, row),
     )?;
     run(
-        &rt,
+        &out,
         "words outside 53 to 539",
         &tables::WORDS,
-        |i, word| refused_word(&rt, i, word),
+        |i, word| refused_word(&out, i, word),
     )?;
     run(
-        &rt,
+        &out,
         "writes",
         &tables::WRITES,
-        |i, row| writes::write(&rt, i, row),
+        |i, row| writes::write(&out, i, row),
     )?;
     run(
-        &rt,
+        &out,
         "HSTART, first bin, starts of bins 0, 1, 47",
         &tables::HSTARTS,
-        |_, h| reads::hstart(&rt, h),
+        |_, h| reads::hstart(&out, h),
     )?;
     run(
-        &rt,
+        &out,
         "sums of words: the whole, and its parts before and from a word on",
         &tables::SUMS,
-        |i, row| sums::sum(&rt, i, row),
+        |i, row| sums::sum(&out, i, row),
     )
 }

@@ -13,6 +13,7 @@ mod shots;
 mod show;
 
 use std::io;
+use vectors_output::LeavesOut;
 
 // The rows in turn; each finds the record as the last one left it.
 fn run_all(rt: &impl Print) -> io::Result<()> {
@@ -33,6 +34,7 @@ fn run_all(rt: &impl Print) -> io::Result<()> {
 }
 
 fn main(rt: HostRuntime) -> io::Result<()> {
-    fields::legend(&rt)?;
-    run_all(&rt)
+    let out = LeavesOut { output: rt };
+    fields::legend(&out)?;
+    run_all(&out)
 }

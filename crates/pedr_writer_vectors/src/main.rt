@@ -10,6 +10,7 @@ mod show;
 mod writes;
 
 use std::io;
+use vectors_output::LeavesOut;
 
 // The rows in turn; each finds the fields as the last one left them.
 fn run_all(rt: &impl Print) -> io::Result<()> {
@@ -31,9 +32,10 @@ fn run_all(rt: &impl Print) -> io::Result<()> {
 }
 
 fn main(rt: HostRuntime) -> io::Result<()> {
-    println!(rt;
+    let out = LeavesOut { output: rt };
+    println!(out;
         "write: the answer; of a record that is written the counter as it is read, digests of the block's runs and carried bytes, \
         and what was read is written again; digests of both outputs, each with the bytes after it"
     )?;
-    run_all(&rt)
+    run_all(&out)
 }
