@@ -75,14 +75,14 @@ fn accepted(
     show_arrays(rt, row, &packet.arrays)
 }
 
-// What the reader says of bytes. The table gives a refusal arrays of zeros.
+// What the reader says of bytes, and the arrays that the one for C gives beside a refusal.
 pub(crate) fn judge(rt: &impl Print, bytes: &[u8], word: usize, row: u64) -> io::Result<()> {
     let answer = packet::read_packet(bytes, word);
     match answer {
         Ok(packet) => accepted(rt, bytes, word, row, &packet)?,
         Err(refusal) => {
             show::refused(rt, refusal)?;
-            rt.print(", arrays zero")?;
+            show_arrays(rt, row, &mola::mola_read_packet(bytes, word).arrays)?;
         }
     }
     show::check(rt, refusal::number_of(answer), row / tables::DUE)

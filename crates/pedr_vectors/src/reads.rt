@@ -2,7 +2,7 @@
 use crate::{cases, fields, frames, rows, shots, show};
 use pedr::Record;
 use pedr_arrays::RecordArrays;
-use pedr_layout::{CARRIED_MOST, UNINTERPRETED};
+use pedr_layout::UNINTERPRETED;
 use pedr_shot::ShotFields;
 use refusal::Refusal;
 use std::io;
@@ -35,7 +35,7 @@ fn accepted(rt: &impl Print, record: &Record, full: bool) -> io::Result<()> {
     show_arrays(rt, &record.arrays, &record.uninterpreted, full)
 }
 
-// What the reader says of bytes. The table gives a refusal runs and arrays of zeros.
+// What the reader says of bytes, and the runs, arrays and bytes that the one for C gives beside a refusal.
 fn read(rt: &impl Print, row: u64, bytes: &[u8]) -> io::Result<()> {
     let full = rows::show(row) == cases::FULL;
     let answer = pedr::read_record(bytes);
@@ -43,8 +43,10 @@ fn read(rt: &impl Print, row: u64, bytes: &[u8]) -> io::Result<()> {
         Ok(record) => accepted(rt, &record, full)?,
         Err(refusal) => {
             refused(rt, refusal)?;
-            frames::show_runs(rt, &pedr_block_runs::no_runs(), &[0; CARRIED_MOST])?;
-            show_arrays(rt, &pedr_arrays::no_arrays(), &[0; UNINTERPRETED], full)?;
+            let beside = pedr_c::read_record(bytes);
+            frames::show_runs(rt, &beside.runs, &beside.carried)?;
+            let arrays = pedr_c::arrays_of(beside.arrays);
+            show_arrays(rt, &arrays, &beside.uninterpreted, full)?;
         }
     }
     show::check(rt, refusal::number_of(answer), row / cases::DUE)
