@@ -51,6 +51,8 @@ fn shot_words(failures: &[ShotFailures; SHOTS]) -> DescriptorWords
 {
     let mut high: u64 = 0;
     let mut low: u64 = 0;
+    // Of a copy, since the compiler keeps the whole struct in memory that a loop reads a part of.
+    let failures = *failures;
     for shot in failures.iter().rev() {
         high = (high << 1) + u64::from(shot.window) + (u64::from(shot.comparison) << SHOTS);
         low = (low << 1)
