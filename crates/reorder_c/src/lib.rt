@@ -68,7 +68,7 @@ fn drain_turns(
         return counted;
     };
     let turns = report.turns;
-    reorder_c_answers::put_descriptions(&turns[..count as usize], descriptions);
+    reorder_c_answers::put_turns(&turns[..count as usize], descriptions);
     counted
 }
 

@@ -4,11 +4,11 @@ use mathlib.Core.Path.{◌≡◌, refl, sym, ap, ◌∙◌}
 use mathlib.Core.List.{List, [], ◌∷◌, ◌++◌, map, append_assoc}
 use native.Mathlib.Numerals.{add-one}
 use native.Mathlib.Omega.{arith}
-use lib.ListN.{length, get_or, take, drop, replicate, length-append, length-map}
+use lib.ListN.{length, get_or, take, replicate, length-append, length-map}
 use Rattle.std.proofs.lemmas.List.{drop-replicate, length-replicate}
 use lib.Seq.{take-suc, take_all, length-take-le}
 use Rattle.octets.specs.Bytes.{put}
-use Rattle.octets.proofs.Store.{put_then, put_nothing, put_length, put_splice}
+use Rattle.octets.proofs.Store.{put_then, put_nothing, put_length, put_whole, put_splice}
 use Rattle.reorder_turn.specs.declared.Description.{Description}
 use Rattle.reorder_rules.specs.declared.Turn.{Turn}
 use Rattle.reorder_turn.specs.Described.{no_description, described, described_all}
@@ -53,6 +53,13 @@ stored_more ds old l i h s =
 pub stored_length : (ds : List Description) (old l : List ℕ) (i : ℕ) → Stored ds old l i → length l ≡ length old
 stored_length ds old l i s = ap length s.1 ∙ put_length old 0 (listed (take i ds))
 
+-- all of as many as there is room for are the numbers
+pub stored_whole : (ds : List Description) (old l : List ℕ) (i : ℕ) → length ds ≤ i → length old ≡ 2 * length ds → Stored ds old l i → l ≡ listed ds
+stored_whole ds old l i h n s =
+    s.1
+    ∙ ap (λ (z : List Description). put old 0 (listed z)) (take_all i ds (omega arith))
+    ∙ put_whole old (listed ds) (omega (arith, listed_length ds))
+
 -- what describes nothing is zeros
 listed_none : (n : ℕ) → listed (replicate n no_description) ≡ replicate (2 * n) 0
 listed_none zero = refl
@@ -70,6 +77,6 @@ stored_all ts l i k h s =
     ∙ ap (λ (z : List Description). put (replicate 64 0) 0 (listed z)) (take_all i ds (omega arith))
     ∙ put_splice (replicate 64 0) (listed ds) 0 (omega (arith, length-replicate {A = ℕ} 64 0))
     ∙ ap (λ (z : List ℕ). listed ds ++ z) (drop-replicate {X = ℕ} (0 + length (listed ds)) 64 0
-      ∙ ap (λ (k : ℕ). replicate k 0) {y = 2 * (32 - length ts)} (omega arith)
-      ∙ sym (listed_none (32 - length ts)))
+    ∙ ap (λ (k : ℕ). replicate k 0) {y = 2 * (32 - length ts)} (omega arith)
+    ∙ sym (listed_none (32 - length ts)))
     ∙ sym (listed_append ds (replicate (32 - length ts) no_description))

@@ -2,7 +2,9 @@
 // have no such enums and structs.
 #![tactic(auto)]
 
-ghost use Rattle.std.specs.Prelude.{◌≡◌, take};
+ghost use Rattle.std.specs.Prelude.{◌≡◌, ◌+◌, ◌*◌, ◌<◌, [], ◌∷◌, length, take};
+ghost use Rattle.octets.specs.Bytes.{put};
+ghost use Rattle.octets.specs.Refusal.{refused};
 ghost use Rattle.refusal.specs.Number.{number, said};
 ghost use Rattle.reorder_rules.specs.Sizes.{positions};
 ghost use Rattle.reorder_turn.specs.Described.{described_all};
@@ -30,14 +32,31 @@ pub struct Count {
     pub count: u32,
 }
 
+// What a refusal with this number answers.
+pub fn refused_answer(number: u8) -> Answer
+    ensures { result ≡ refused_answer number }
+{
+    Answer {
+        refusal: number as u32,
+        ..Answer::default()
+    }
+}
+
+// The same of a drain.
+pub fn refused_count(number: u8) -> Count
+    ensures { result ≡ drained_count (refused number) }
+{
+    Count {
+        refusal: number as u32,
+        count: 0,
+    }
+}
+
 impl From<Refusal> for Answer {
     ghost from_gives = { λ refusal answer. answer ≡ refused_answer (number refusal) };
 
     fn from(refusal: Refusal) -> Answer {
-        Answer {
-            refusal: u8::from(refusal) as u32,
-            ..Answer::default()
-        }
+        refused_answer(u8::from(refusal))
     }
 }
 
@@ -91,26 +110,43 @@ pub fn drained_count(answer: Result<u32, Refusal>) -> Count
 {
     match answer {
         Ok(count) => Count { refusal: 0, count },
-        Err(refusal) => Count {
-            refusal: u8::from(refusal) as u32,
-            count: 0,
-        },
+        Err(refusal) => refused_count(u8::from(refusal)),
     }
 }
 
 // How many numbers describe the answers of a drain: a kind and a position for each that it can give.
 pub const DESCRIPTION_NUMBERS: usize = 2 * MOST_ANSWERS;
 
-// Stores the kind and the position of each answer's description, of the first 32, and zeros behind them. They are lent as a slice, whose length is known.
-pub fn put_descriptions(turns: &[Turn], out: &mut [u32; DESCRIPTION_NUMBERS])
+// Stores a description's kind and position in its two places.
+fn put_description(description: Description, i: usize, numbers: &mut [u32])
+    requires { 2 * i + 1 < length numbers.old }
+    ensures { numbers.new ≡ put (put numbers.old (2 * i) (description.kind ∷ [])) (2 * i + 1) (description.position ∷ []) }
+{
+    numbers[2 * i] = description.kind;
+    numbers[2 * i + 1] = description.position;
+}
+
+// Stores the kind and the position of each description. They are lent as a slice, whose length is known.
+pub fn put_descriptions(
+    descriptions: [Description; MOST_ANSWERS],
+    out: &mut [u32; DESCRIPTION_NUMBERS],
+)
+    ensures { out.new ≡ listed descriptions }
+{
+    let numbers = &mut out[..];
+    for (i, description) in descriptions.iter().enumerate() {
+        put_description(*description, i, numbers);
+    }
+}
+
+// The same of the descriptions of answers, of the first 32, and zeros behind them.
+pub fn put_turns(turns: &[Turn], out: &mut [u32; DESCRIPTION_NUMBERS])
     ensures { out.new ≡ listed (described_all (take positions turns.now)) }
 {
     *out = [0; DESCRIPTION_NUMBERS];
     let numbers = &mut out[..];
     let first = &turns[..MOST_ANSWERS.min(turns.len())];
     for (i, turn) in first.iter().enumerate() {
-        let description = Description::from(*turn);
-        numbers[2 * i] = description.kind;
-        numbers[2 * i + 1] = description.position;
+        put_description(Description::from(*turn), i, numbers);
     }
 }

@@ -53,6 +53,6 @@ returns c =
     let r = d.drain-drained.result.answer in
     let n : length r.turns ≡ 32 = search rules in
     told d _
-    (c.put_descriptions.ensures
+    (c.put_turns.ensures
     ∙ ap (λ (ts : List Turn). listed (described_all (take 32 (take c.in-Ok.count ts)))) {y = places (due d)} c.drain-drained.ensures.1.turns
     ∙ numbers_listed (due d) c.args.descriptions.now _ (sym (count_is d) ∙ ap said c.in-Ok.is) (ap length (sym c.drain-drained.ensures.1.turns) ∙ n))
