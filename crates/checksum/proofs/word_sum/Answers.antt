@@ -1,5 +1,5 @@
 -- The invariant: what is added so far and the words that are left, the first of them without its upper half, make the whole.
-use Rattle.std.proofs.Common.{ℕ, ◌+◌, ◌%◌, List, get_or, refl, sym, ap, ◌∙◌, arith}
+use Rattle.std.proofs.Common.{ℕ, ◌+◌, ◌%◌, List, get_or, sym, ap, ◌∙◌, arith}
 use Rattle.std.specs.Slice.Iter.{chunks_exact_rest}
 use Rattle.checksum.proofs.Sum.{low_sum, last_byte, sum_none, sum_first, pair_first, no_pair, add_more}
 use Rattle.checksum.proofs.word_sum.Goals as goal
@@ -25,7 +25,7 @@ loop-pair-preserved c =
     let e = pair_first s c.in-Some-pair.pair.now r n.1.0 (n.1.1 ∙ v.0) in (
       n.0 ∙ v.0,
       v.1 ∙ e.1,
-      add_more _ _ c.loop-pair.sum c.halves-added.result _ _ (e.0 ∙ ap (λ (k : ℕ). k + low_sum r) (sym c.halves-added.ensures)) refl v.2,
+      add_more _ _ c.loop-pair.sum c.halves-added.result _ _ (e.0 ∙ ap (λ (k : ℕ). k + low_sum r) (sym c.halves-added.ensures)) (omega arith) v.2,
     )
 
 pub returns : goal.returns
