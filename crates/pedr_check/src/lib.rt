@@ -11,14 +11,19 @@ use pedr_layout::{
 };
 use refusal::Refusal;
 
+// The most µs and the most millionths of a degree of latitude that a frame may have, either way from 0.
+const MOST_MICROS: u32 = 999_999;
+
+const MOST_LATITUDE: u32 = 90_000_000;
+
 // Refusals 13 to 15 of a frame's microseconds, latitude and frame index.
 pub fn check_values(micros: i32, latitude: i32, frame_index: u16) -> Result<(), Refusal>
     ensures { refusal_in (said result) ≡ values_refusal micros latitude frame_index }
 {
-    if micros.unsigned_abs() > 999_999 {
+    if micros.unsigned_abs() > MOST_MICROS {
         return Err(Refusal::TimeMicros);
     }
-    if latitude.unsigned_abs() > 90_000_000 {
+    if latitude.unsigned_abs() > MOST_LATITUDE {
         return Err(Refusal::Latitude);
     }
     if !(1..=7).contains(&frame_index) {

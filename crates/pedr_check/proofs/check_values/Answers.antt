@@ -17,15 +17,15 @@ use Rattle.pedr_check.proofs.check_values.Goals as goal
 size : (r : ℕ) (x : ℤ) → SFits w32 x → r ≡ nat_abs (to_z w32 (of_z w32 x)) → r ≡ nat_abs x
 size r x fits e = e ∙ ap nat_abs (to_z-of_z w32 x fits)
 
-pub returns-then-unsigned_abs-gt999999 : goal.returns-then-unsigned_abs-gt999999
+pub returns-then-unsigned_abs-gt-MOST_MICROS : goal.returns-then-unsigned_abs-gt-MOST_MICROS
 unfolding values_refusal
-returns-then-unsigned_abs-gt999999 c =
+returns-then-unsigned_abs-gt-MOST_MICROS c =
     let m = size _ _ c.ranges.micros c.unsigned_abs.ensures.value in
     let n : 999999 < nat_abs c.args.micros = omega arith in search rungs depth 10
 
-pub returns-then-unsigned_abs-gt90000000 : goal.returns-then-unsigned_abs-gt90000000
+pub returns-then-unsigned_abs-gt-MOST_LATITUDE : goal.returns-then-unsigned_abs-gt-MOST_LATITUDE
 unfolding values_refusal
-returns-then-unsigned_abs-gt90000000 c =
+returns-then-unsigned_abs-gt-MOST_LATITUDE c =
     let m = size _ _ c.ranges.micros c.unsigned_abs.ensures.value in
     let l = size _ _ c.ranges.latitude c.unsigned_abs-2.ensures.value in
     let i : nat_abs c.args.micros ≤ 999999 = omega arith in
