@@ -35,7 +35,7 @@ pub fn write_u64(x: u64, i: usize, out: &mut [u8])
     octets::write_into(&x.to_be_bytes(), i, out);
 }
 
-// The five below are the trait's store at a type each: their names and promises may not change.
+// The five below store a number of one type each: their names and promises may not change.
 
 // Stores a number of 8 bits at index i.
 pub fn write_u8(x: u8, i: usize, out: &mut [u8])
@@ -48,7 +48,7 @@ pub fn write_u8(x: u8, i: usize, out: &mut [u8])
 pub fn write_u16(x: u16, i: usize, out: &mut [u8])
     ensures { out.new ≡ put out.old i (octets_of 2 x) }
 {
-    x.write_at(i, out);
+    octets::write_into(&u16_bytes(x), i, out);
 }
 
 // Stores a number of 32 bits from index i on.
@@ -62,12 +62,12 @@ pub fn write_u32(x: u32, i: usize, out: &mut [u8])
 pub fn write_i16(x: i16, i: usize, out: &mut [u8])
     ensures { out.new ≡ put out.old i (octets_of 2 (complemented 16 x)) }
 {
-    x.write_at(i, out);
+    i16_bits(x).write_at(i, out);
 }
 
 // Stores a signed number of 32 bits from index i on.
 pub fn write_i32(x: i32, i: usize, out: &mut [u8])
     ensures { out.new ≡ put out.old i (octets_of 4 (complemented 32 x)) }
 {
-    x.write_at(i, out);
+    i32_bits(x).write_at(i, out);
 }
