@@ -33,11 +33,10 @@ unfolding shot_refusal
 returns-in_err-flags c =
     let s = c.args.bytes.now in
     let k = c.args.shot in
-    let z : record_refusal s ≡ 0 = sym c.in_ok-check_record.ensures in
     let refusal = c.in_err-flags.field-0.0 in
     let e : refused (number refusal) ≡ flags_due s k = c.in_err-flags.ensures in
     let q = refusal_said _ _ (flags_of s k) e in
-    say_handed_on c.from_residual-in_err-flags.result refusal _ (shot_of s k) c.from_residual-in_err-flags.ensures (then_pass _ _ _ z q.0)
+    say_handed_on c.from_residual-in_err-flags.result refusal _ (shot_of s k) c.from_residual-in_err-flags.ensures (then_pass (record_refusal s) _ _ (sym c.in_ok-check_record.ensures) q.0)
 
 pub read_fields-requires : goal.read_fields-requires
 read_fields-requires c = there_is _ _ _ c.in_ok-flags.ensures
