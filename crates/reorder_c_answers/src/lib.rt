@@ -65,22 +65,24 @@ impl From<Turn> for Answer {
     ghost from_gives = { λ turn answer. answer ≡ turn_answer turn };
 
     fn from(turn: Turn) -> Answer {
-        let description = Description::from(turn);
+        let told = Description::from(turn);
         Answer {
             refusal: 0,
-            kind: description.kind,
-            position: description.position,
+            kind: told.kind,
+            position: told.position,
         }
     }
 }
 
-// The numbers of what a serve answers.
+// The numbers of what a serve answers: its number, and its description.
 pub fn served_answer(answer: Result<Turn, Refusal>) -> Answer
     ensures { result ≡ served_answer (said answer) }
 {
-    match answer {
-        Ok(turn) => Answer::from(turn),
-        Err(refusal) => Answer::from(refusal),
+    let description = reorder_turn::describe(answer);
+    Answer {
+        refusal: refusal::number_of(answer) as u32,
+        kind: description.kind,
+        position: description.position,
     }
 }
 
