@@ -2,6 +2,7 @@
 #![tactic(auto)]
 
 ghost use Rattle.std.specs.Prelude.{◌≡◌};
+ghost use Rattle.std.specs.Int.Signed.{shr_z};
 ghost use Rattle.position.specs.Position.{position_said, position};
 ghost use Rattle.position.specs.Rule.{Rule};
 
@@ -23,14 +24,20 @@ pub struct Anchor {
     pub time: u32,
 }
 
+// x / 229,376 rounded down.
+fn rounds(x: i64) -> i64
+    ensures { result ≡ shr_z x 229376 }
+{
+    x.div_euclid(ROUND)
+}
+
 // The position of the packet with this count and coarse time, negative before the anchor; none where no position fits.
 pub fn locate(anchor: Anchor, count: u16, time: u32, tolerance: u32) -> Option<i64>
     ensures { position_said result ≡ position anchor count time tolerance }
 {
     let counted = i64::from(count) - i64::from(anchor.count);
     let elapsed = i64::from(time) - i64::from(anchor.time);
-    let latest = elapsed + i64::from(tolerance);
-    let p = counted + COUNTS * (latest - SECONDS * counted).div_euclid(ROUND);
+    let p = counted + COUNTS * rounds(elapsed + i64::from(tolerance) - SECONDS * counted);
     if (SECONDS * p - elapsed).unsigned_abs() <= u64::from(tolerance) {
         Some(p)
     } else {

@@ -1,24 +1,19 @@
 -- Every step stays in an i64, so that what is computed is what `position` says.
-use Rattle.std.proofs.Common.{◌≡◌, ℕ, ◌^◌, ◌<◌, ◌≤◌, sym, refl, ap, ◌∙◌, arith, ℤ, pos, negsuc, ◌+ℤ◌, ◌-ℤ◌, ◌*ℤ◌, to_z, of_z, w64}
+use Rattle.std.proofs.Common.{◌≡◌, ◌^◌, ◌<◌, ◌≤◌, sym, refl, ap, ◌∙◌, arith, ℤ, pos, negsuc, ◌+ℤ◌, ◌-ℤ◌, ◌*ℤ◌, to_z, of_z, w64}
 use Rattle.std.proofs.lemmas.Int.{ints}
-use Rattle.std.specs.Int.{int_div_euclid}
 use lib.IntN.{nat_abs}
 use lib.Signed.{shr_z}
 use Rattle.octets.proofs.Ladder.{pass_le, fail_le, say_refused, say_answered}
 use Rattle.position.specs.Position.{position}
 use Rattle.position.proofs.locate.Goals as goal
-use Rattle.position.proofs.locate.Goals.{After-div_euclid, After-unsigned_abs}
-
-rounded_down : (x : ℤ) (m : ℕ) → int_div_euclid x (pos m) ≡ shr_z x m
-rounded_down (pos a) m = refl
-rounded_down (negsuc a) m = refl
+use Rattle.position.proofs.locate.Goals.{After-rounds, After-unsigned_abs}
 
 -- a quotient is no larger than what is divided
 small : (x : ℤ) → nat_abs x < 2 ^ 40 → nat_abs (shr_z x 229376) < 2 ^ 40
 small (pos a) h = omega arith
 small (negsuc a) h = omega arith
 
-module _ (c : After-div_euclid) where
+module _ (c : After-rounds) where
   abbrev counted : ℤ
   counted = pos c.args.count -ℤ pos c.args.anchor.count
 
@@ -34,11 +29,10 @@ module _ (c : After-div_euclid) where
   rounds_small : nat_abs (shr_z rest 229376) < 2 ^ 40
   rounds_small = small rest (omega (arith, ints))
 
-  rounds_is : c.div_euclid.result ≡ shr_z rest 229376
-  rounds_is =
-      c.div_euclid.ensures ∙ ap (λ (x : ℤ). int_div_euclid x (pos 229376)) (omega (arith, ints)) ∙ rounded_down rest 229376
+  rounds_is : c.rounds.result ≡ shr_z rest 229376
+  rounds_is = c.rounds.ensures ∙ ap (λ (x : ℤ). shr_z x 229376) (omega (arith, ints))
 
-  p_is : to_z w64 (of_z w64 (to_z w64 (of_z w64 (to_z w64 (of_z w64 c.from.result) -ℤ to_z w64 (of_z w64 c.from-2.result))) +ℤ to_z w64 (of_z w64 (pos 16384 *ℤ to_z w64 (of_z w64 c.div_euclid.result))))) ≡ p
+  p_is : to_z w64 (of_z w64 (to_z w64 (of_z w64 (to_z w64 (of_z w64 c.from.result) -ℤ to_z w64 (of_z w64 c.from-2.result))) +ℤ to_z w64 (of_z w64 (pos 16384 *ℤ to_z w64 (of_z w64 c.rounds.result))))) ≡ p
   p_is = omega (arith, ints, rounds_is, rounds_small)
 
   apart_is : to_z w64 (of_z w64 (to_z w64 (of_z w64 (pos 14 *ℤ p)) -ℤ to_z w64 (of_z w64 (to_z w64 (of_z w64 c.from-3.result) -ℤ to_z w64 (of_z w64 c.from-4.result))))) ≡ pos 14 *ℤ p -ℤ elapsed
@@ -48,8 +42,8 @@ module _ (c : After-div_euclid) where
 far_is : (c : After-unsigned_abs) → c.unsigned_abs.result ≡ nat_abs (pos 14 *ℤ p c.before -ℤ elapsed c.before)
 far_is c = c.unsigned_abs.ensures.value ∙ simp (p_is c.before, apart_is c.before)
 
-pub overflow_sub-latest : goal.overflow_sub-latest
-overflow_sub-latest c = omega (arith, ints)
+pub overflow_sub-elapsed-2 : goal.overflow_sub-elapsed-2
+overflow_sub-elapsed-2 c = omega (arith, ints)
 
 pub overflow_mul-p : goal.overflow_mul-p
 overflow_mul-p c = omega (arith, ints, rounds_is c, rounds_small c)
