@@ -1,7 +1,7 @@
 -- The two refusals that come first, 30 and 27, in a ladder that goes on after them.
 use Prim.Native.Nat.{ℕ, zero, suc}
-use mathlib.Core.Path.{◌≡◌, sym, ap, ◌∙◌}
-use mathlib.Core.Bool.{Bool, true, false}
+use mathlib.Core.Path.{◌≡◌, refl, sym, ap, ◌∙◌}
+use mathlib.Core.Bool.{Bool, true, false, cond, not}
 use borrow.Author.Tests.{eqb-true}
 use lib.Dec.{eqb}
 use Rattle.std.specs.Prelude.{Result, IsErr, IsErrAnd}
@@ -11,7 +11,7 @@ use Rattle.refusal.specs.declared.Refusal.{Refusal}
 use Rattle.refusal.specs.Number.{number, said}
 use Rattle.refusal.proofs.Said.{number_not_0, handed_on}
 use Rattle.reorder_session.specs.declared.Session.{Session}
-use Rattle.reorder_session.specs.Session.{single, store_refusal}
+use Rattle.reorder_session.specs.Session.{single, broken, store_refusal}
 
 -- a ladder that ends where another goes on gives its refusal
 goes_on : (k : ℕ) (b : Bool) (n next r : ℕ) → r ≡ (k then refuse n unless b else 0) → (r ≡ 0 → ⊥) → r ≡ (k then refuse n unless b else next)
@@ -42,3 +42,14 @@ module _ (s : Session) (size next : ℕ) where
   store_handed_on r e h q =
       let p : refusal_in (said r) ≡ number e = ap refusal_in (handed_on r e h) in
       store_fail (refusal_in (said r)) (p ∙ q) (λ z. number_not_0 e (sym p ∙ z))
+
+-- the same two, read off their tests, for `grind`
+two : (a b : Bool) → ((refuse 30 unless not a else 0) then refuse 27 unless b else 0) ≡ cond a 30 (cond b 0 27)
+unfolding ◌then◌ refuse◌unless◌else◌
+two true b = refl
+two false true = refl
+two false false = refl
+
+pub store_by : (s : Session) (size : ℕ) → store_refusal s size ≡ cond (broken s) 30 (cond (eqb size 34560) 0 27)
+unfolding store_refusal
+store_by s size = two (broken s) (eqb size 34560)

@@ -6,7 +6,7 @@ use native.Mathlib.Decide.{dec_le}
 use native.Mathlib.Omega.{arith}
 use borrow.Author.Tests.{ltb-false, le-ltb, le-leb, not-true, not-false}
 use lib.Dec.{ltb}
-use Rattle.octets.proofs.Ladder.{pass, fail, passed, within_true, then_pass, then_zero, pass_eq}
+use Rattle.octets.proofs.Ladder.{pass, fail, passed, within_true}
 use Rattle.packet_layout.specs.SumWord.{is_sum_word}
 use Rattle.reorder_rules.specs.Sizes.{is_threshold}
 use Rattle.window.specs.Window.{held_at, some_held}
