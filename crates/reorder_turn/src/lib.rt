@@ -50,6 +50,7 @@ pub fn waits(session: Session) -> bool
 }
 
 // Refusals 30, 27 and 29 of a serve.
+#[tactic(auto, using(crate::proofs::Ladders::ladders))]
 pub fn check_serve(session: Session, store_size: usize, out_size: usize) -> Result<(), Refusal>
     ensures { refusal_in (said result) ≡ serve_refusal session store_size out_size }
 {
