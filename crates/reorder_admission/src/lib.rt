@@ -36,6 +36,7 @@ fn position_answer(window: Window, located: Option<i64>) -> Result<u32, Refusal>
 }
 
 // What an offer answers: the position that the packet is held at. An opening holds its packet at position 0.
+#[tactic(auto, using(crate::proofs::Ladders::ladders))]
 pub fn offer_answer(session: Session, store_size: usize, packet: &[u8]) -> Result<u32, Refusal>
     ensures { said result ≡ offer_due session store_size packet.now }
 {

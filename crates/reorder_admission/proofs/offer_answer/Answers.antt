@@ -1,5 +1,7 @@
 -- The ladder of refusals, and past it the position.
+use Prim.Native.Nat.{ℕ}
 use mathlib.Core.Path.{◌≡◌, sym, ap, ◌∙◌}
+use native.Mathlib.Omega.{arith}
 use Rattle.octets.specs.Refusal.{answered}
 use Rattle.octets.proofs.Ladder.{answer_said}
 use Rattle.refusal.specs.Number.{number}
@@ -11,32 +13,29 @@ use Rattle.packet.specs.Read.{read_due}
 use Rattle.window.specs.Window.{held_at}
 use Rattle.reorder_rules.specs.Offer.{admitted, offer_refusal, offer_due}
 use Rattle.reorder_rules.proofs.Said.{refusing_now, refusing_next}
+use Rattle.reorder_session.specs.declared.Session.{Session}
 use Rattle.reorder_session.specs.Session.{store_refusal}
 use Rattle.reorder_session.specs.Calls.{position_of}
 use Rattle.reorder_session.proofs.Store.{store_pass, store_fail}
-use Rattle.reorder_admission.proofs.Handed.{handed_on}
 use Rattle.reorder_admission.proofs.offer_answer.Goals as goal
+
+-- what the store's size refuses, of a size that is worked out
+asked : (s : Session) (k m n : ℕ) → k ≡ store_refusal s m → m ≡ n → k ≡ store_refusal s n
+asked s k m n e q = e ∙ ap (store_refusal s) q
 
 pub returns-in_err-check_store : goal.returns-in_err-check_store
 unfolding offer_refusal offer_due
 returns-in_err-check_store c =
     let e = c.in_err-check_store.field-0.0 in
-    let q : number e ≡ store_refusal c.args.session c.args.store_size = c.in_err-check_store.ensures in
+    let q : number e ≡ store_refusal c.args.session c.args.store_size = asked _ _ _ _ c.in_err-check_store.ensures (omega arith) in
     Refusals.handed_on _ e c.from_residual.ensures ∙ refusing_now _ _ _ (store_fail _ _ _ _ q (number_not_0 e)) (number_not_0 e)
-
-pub returns-in_default : goal.returns-in_default
-unfolding offer_refusal offer_due
-returns-in_default c =
-    let z : 0 ≡ store_refusal c.args.session c.args.store_size = c.in_ok-check_store.ensures in
-    let h = handed_on _ _ _ _ c.read_answer-read.ensures c.unwrap_err.ensures in
-    refusing_now _ _ _ (store_pass _ _ _ _ (sym z) h.0) h.1
 
 pub returns : goal.returns
 unfolding offer_refusal offer_due
 returns c =
     let s = c.args.session in
     let b = c.args.packet.now in
-    let z : 0 ≡ store_refusal s c.args.store_size = c.in_ok-check_store.ensures in
+    let z : 0 ≡ store_refusal s c.args.store_size = asked _ _ _ _ c.in_ok-check_store.ensures (omega arith) in
     let q : answered c.in-Ok.fields ≡ read_due b s.sum_word = c.in-Ok.ensures in
     let r = answer_said (read_refusal b s.sum_word) (fields_of b) _ q in
     refusing_next _ _ _ (sym (store_pass _ _ _ 0 (sym z) (sym r.0)))
