@@ -1,13 +1,12 @@
 -- The ladder of refusals, the reader's answer, and what an accepted packet opens.
-use Prim.Native.Nat.{ℕ}
-use mathlib.Core.Path.{◌≡◌, sym, ap, ◌∙◌}
+use mathlib.Core.Path.{◌≡◌, sym, ap}
 use native.Mathlib.Omega.{arith}
 use Rattle.octets.specs.Refusal.{answered}
 use Rattle.octets.proofs.Ladder.{rungs, pass_within, pass_eq, fail_below, fail_above, say_refused, say_answered, answer_said}
 use Rattle.packet_check.specs.Refusal.{read_refusal}
+use Rattle.packet.specs.declared.PacketFields.{PacketFields}
 use Rattle.packet.specs.Fields.{fields_of}
 use Rattle.packet.specs.Read.{read_due}
-use Rattle.reorder_session.specs.Session.{with_window}
 use Rattle.reorder_admission.proofs.Handed.{handed_on}
 use Rattle.reorder_offer.specs.Opening.{opened, open_refusal}
 use Rattle.reorder_offer.proofs.opened_session.Goals as goal
@@ -46,5 +45,4 @@ returns c =
     (sym
     (pass_within 1 31 _ 20 _ 0 c.if-threshold-lt-LEAST_THRESHOLD.false c.if-threshold-gt-MOST_THRESHOLD.false
     (pass_eq _ _ 27 _ 0 c.if-store_size-ne-STORE_SIZE.false (sym r.0))))
-    (ap (λ (n : ℕ). record { anchor = record { count = n; time = c.in-Ok.fields.coarse_time }; sum_word = k.sum_word; threshold = k.threshold; window = c.first.result }) c.from.ensures
-    ∙ (λ i. with_window (opened (r.1 i) k.threshold k.sum_word) (c.first.ensures i)))
+    (simp (c.from.ensures, c.first.ensures) (ap (λ (f : PacketFields). opened f k.threshold k.sum_word) r.1))
