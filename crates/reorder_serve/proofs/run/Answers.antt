@@ -21,7 +21,7 @@ returns-in-Waiting c =
 pub loop-i-preserved : goal.loop-i-preserved
 loop-i-preserved c =
     let e = c.step-served.ensures in
-    run_more _ _ _ _ _ _ _ _ c.loop-i.invariant c.loop-i-test.true c.requires.budget_le_positions _ _ _
+    run_more _ _ _ _ _ _ _ _ c.loop-i.invariant (omega arith) c.requires.budget_le_positions _ _ _
     (moves _ (λ w. c.in_default.not-Waiting (e.answer ∙ w)))
     e.session e.output e.answer
 
@@ -29,5 +29,5 @@ pub returns : goal.returns
 returns c =
     let l = c.loop-i in
     let all : c.args.budget ≡ l.i = omega arith in
-    let d = run_done _ _ _ _ _ _ _ _ l.invariant _ refl (run_spent _ _ _ _ _ _ _ _ l.invariant c.loop-i-test.false) in
+    let d = run_done _ _ _ _ _ _ _ _ l.invariant _ refl (run_spent _ _ _ _ _ _ _ _ l.invariant (omega arith)) in
     record { count = ap answered all ∙ d.count; turns = d.reported; session = d.session; output = d.output }
