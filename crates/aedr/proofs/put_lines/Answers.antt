@@ -43,7 +43,7 @@ loop-piece-preserved c =
       high = omega (arith, h, z);
       room = omega (arith, p.ensures.upper_bound, i.room, z);
       kept = p.auto.out ∙ i.kept;
-      text = rw z (lines_more a.input.now a.out.now _ _ a.done k (l.number + 1) l.at n.result p.result (omega (arith, i.low)) (n.ensures.0 ∙ ap answer_of f.0) i.text p.ensures.text_at);
+      text = rw z (lines_more a.input.now a.out.now _ _ a.done k _ l.at n.result p.result (omega (arith, i.low)) (n.ensures.0 ∙ ap answer_of f.0) i.text p.ensures.text_at);
     }
 
 pub returns : goal.returns
