@@ -1,3 +1,4 @@
+pub mod Stored
 pub mod Running
 pub mod Reading
 pub mod Waits

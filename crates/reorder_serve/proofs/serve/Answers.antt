@@ -23,7 +23,7 @@ step-served-requires c =
     let a = c.args in
     let z : 0 ≡ serve_refusal a.session (length a.store.now) (length a.out.now) = c.in_default.ensures in
     let r = serve_ready single a.session (length a.store.now) (length a.out.now) (sym z) in
-    record { start_bound = omega (arith, (whole_fit _ r.fit).next_most); store_len = r.store }
+    record { start_bound = omega (arith, (whole_fit _ r.fit).next_most); store_len = r.store; room = r.out }
 
 pub returns : goal.returns
 unfolding serve_of
