@@ -5,7 +5,7 @@
 ghost use Rattle.reorder_c.specs.Calls.{OpensAs, OffersAs, ServesAs, DrainsAs, PassesAs};
 
 use lent_record::Stepped;
-use reorder_c_answers::{Answer, Count, DESCRIPTION_NUMBERS};
+use reorder_c_answers::{Answer, Count, DESCRIPTION_NUMBERS, DescriptionPlaces};
 use reorder_session::Session;
 
 // Opens a session with this packet at position 0. A refused opening returns the session given.
@@ -47,32 +47,8 @@ pub fn serve(session: Session, out: &mut [u8], store: &[u8]) -> Stepped<Answer, 
     }
 }
 
-// Serves until a serve waits or the budget is spent; the answers are described in the lent numbers, unless it is refused.
-fn drain_turns(
-    session: Session,
-    out: &mut [u8],
-    store: &[u8],
-    budget: u32,
-    descriptions: &mut [u32; DESCRIPTION_NUMBERS],
-) -> Stepped<Count, Session>
-    ensures { DrainsAs session out.old store.now budget descriptions.old
-        result.answer result.session out.new descriptions.new }
-{
-    let drained = reorder_serve::drain(session, out, store, budget);
-    let report = drained.answer;
-    let counted = Stepped {
-        answer: reorder_c_answers::drained_count(report.answer),
-        session: session.with_window(drained.session.window),
-    };
-    let Ok(count) = report.answer else {
-        return counted;
-    };
-    let turns = report.turns;
-    reorder_c_answers::put_turns(&turns[..count as usize], descriptions);
-    counted
-}
-
-// The same, but that a drain that has nothing to serve stores its zeros at once, without the run.
+// Serves until a serve waits or the budget is spent; the answers are described in the lent numbers as they come, over zeros, unless it is refused. One
+// that has nothing to serve ends before the run.
 pub fn drain(
     session: Session,
     out: &mut [u8],
@@ -83,15 +59,30 @@ pub fn drain(
     ensures { DrainsAs session out.old store.now budget descriptions.old
         result.answer result.session out.new descriptions.new }
 {
-    let checked = reorder_turn::check_drain(session, store.len(), out.len(), budget);
-    if checked.is_ok() && reorder_turn::waits(session) {
-        *descriptions = [0; DESCRIPTION_NUMBERS];
+    if let Err(refusal) = reorder_turn::check_drain(session, store.len(), out.len(), budget) {
+        return Stepped {
+            answer: reorder_c_answers::refused_count(u8::from(refusal)),
+            session,
+        };
+    }
+    *descriptions = [0; DESCRIPTION_NUMBERS];
+    if reorder_turn::waits(session) {
         return Stepped {
             answer: Count::default(),
             session,
         };
     }
-    drain_turns(session, out, store, budget, descriptions)
+    let drained = reorder_serve::drain_into::<_, DescriptionPlaces>(
+        session,
+        out,
+        store,
+        budget,
+        descriptions,
+    );
+    Stepped {
+        answer: reorder_c_answers::drained_count(drained.answer),
+        session: session.with_window(drained.session.window),
+    }
 }
 
 // Passes next over, by hand.

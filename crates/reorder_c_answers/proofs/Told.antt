@@ -1,21 +1,20 @@
 -- The numbers of an answer stand for what was said, since no refusal is 0.
-use Prim.Native.Nat.{ℕ, zero, suc, ◌+◌, ◌-◌, ◌≤◌}
+use Prim.Native.Nat.{ℕ, zero, suc, ◌-◌, ◌≤◌}
 use mathlib.Core.Path.{◌≡◌, refl, sym, ap, ◌∙◌, subst}
 use mathlib.Core.List.{List, [], ◌∷◌, ◌++◌, map}
 use native.Mathlib.Omega.{arith}
-use lib.ListN.{length, replicate, take, length-append}
-use lib.Seq.{take_all, take-append_seam}
-use Rattle.std.proofs.lemmas.List.{length-replicate}
+use lib.ListN.{length, replicate}
 use Rattle.octets.specs.Refusal.{Said, refused, answered, say}
 use Rattle.reorder_rules.specs.Outcome.{Outcome, ComesTo}
 use Rattle.reorder_rules.specs.declared.Turn.{Turn}
 use Rattle.reorder_rules.specs.declared.Turn.TheVariants.{Packet, Missing, Waiting}
 use Rattle.reorder_rules.proofs.Said.{comes_by}
 use Rattle.reorder_rules.proofs.Numbered.{Numbered}
-use Rattle.reorder_turn.specs.Described.{no_description, described, described_all, in_places}
-use Rattle.reorder_serve.specs.Report.{counted, places}
-use Rattle.reorder_c_answers.specs.Listed.{listed}
-use Rattle.reorder_c_answers.proofs.Listed.{listed_append}
+use Rattle.reorder_turn.specs.Described.{no_description, described, described_all}
+use Rattle.reorder_serve.specs.Report.{counted}
+use Rattle.reorder_serve.specs.Places.{stored_said}
+use Rattle.reorder_c_answers.specs.Listed.{listed, described_in}
+use Rattle.reorder_c_answers.proofs.Listed.{listed_append, all_described}
 use Rattle.reorder_c_answers.specs.declared.Count.{Count}
 use Rattle.reorder_c_answers.specs.Answers.{as_answer, held_answer, served_answer, passed_answer, drained_count, tabled, position_said, turn_of, turn_said, turns_in, turns_said, Tells}
 
@@ -82,24 +81,10 @@ pub numbers_stay : (x : Said (List Turn)) (d : List ℕ) (n : ℕ) → counted x
 numbers_stay (refused m) d n e = refl
 numbers_stay (answered ts) d n e = let z : ◌≡◌ {A = ℕ} 0 1 = cc in absurd (omega arith)
 
--- as many of the 32 places as are counted hold the answers
-places_count : (ts : List Turn) → length (places (answered ts)) ≡ length ts + (32 - length ts)
-unfolding in_places
-places_count ts = length-append ts _ ∙ ap (λ (k : ℕ). length ts + k) (length-replicate (32 - length ts) Waiting)
-
-places_first : (ts : List Turn) → take (length ts) (places (answered ts)) ≡ ts
-unfolding in_places
-places_first ts = take-append_seam ts _
-
-pub numbers_listed : (x : Said (List Turn)) (d : List ℕ) (k : ℕ) → counted x ≡ answered k → length (places x) ≡ 32
-    → listed (described_all (take 32 (take k (places x)))) ≡ tabled x d
-numbers_listed (refused n) d k e h = let z : ◌≡◌ {A = ℕ} 0 1 = cc in absurd (omega arith)
-numbers_listed (answered ts) d k e h =
-    let q : length ts ≡ k = cc in
-    let n : length ts ≤ 32 = omega (arith, places_count ts) in
-    ap (λ (k : ℕ). listed (described_all (take 32 (take k (places (answered ts)))))) (sym q)
-    ∙ ap (λ (ts : List Turn). listed (described_all (take 32 ts))) (places_first ts)
-    ∙ ap (λ (ts : List Turn). listed (described_all ts)) (take_all 32 ts n)
+pub numbers_filled : (x : Said (List Turn)) (d : List ℕ) (ts : List Turn) → x ≡ answered ts → length ts ≤ 32
+    → stored_said described_in (replicate 64 0) x ≡ tabled x d
+numbers_filled x d ts e h =
+    ap (stored_said described_in (replicate 64 0)) e ∙ all_described ts h ∙ ap (λ (y : Said (List Turn)). tabled y d) (sym e)
 
 -- what holds of what is said holds of what the numbers stand for
 pub drain_told : (P : Said (List Turn) → Type 0) (x : Said (List Turn)) (r : Count) (d e : List ℕ) → Numbered x → P x → Tells r d e x

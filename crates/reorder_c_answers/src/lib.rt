@@ -2,17 +2,16 @@
 // have no such enums and structs.
 #![tactic(auto)]
 
-ghost use Rattle.std.specs.Prelude.{◌≡◌, ◌+◌, ◌*◌, ◌<◌, [], ◌∷◌, length, take};
+ghost use Rattle.std.specs.Prelude.{◌≡◌, ◌+◌, ◌*◌, ◌<◌, [], ◌∷◌, length};
 ghost use Rattle.octets.specs.Bytes.{put};
 ghost use Rattle.octets.specs.Refusal.{refused};
 ghost use Rattle.refusal.specs.Number.{number, said};
-ghost use Rattle.reorder_rules.specs.Sizes.{positions};
-ghost use Rattle.reorder_turn.specs.Described.{described_all};
-ghost use Rattle.reorder_c_answers.specs.Listed.{listed};
+ghost use Rattle.reorder_c_answers.specs.Listed.{listed, described_in};
 ghost use Rattle.reorder_c_answers.specs.Answers.{refused_answer, turn_answer, held_answer, served_answer, passed_answer, drained_count};
 
 use refusal::Refusal;
 use reorder_rules::{MOST_ANSWERS, Turn};
+use reorder_serve::Places;
 use reorder_turn::Description;
 
 // A refusal's number and zeros; or 0, a kind (0 Waiting, 1 a packet, 2 a missing position) and a position.
@@ -122,7 +121,7 @@ pub const DESCRIPTION_NUMBERS: usize = 2 * MOST_ANSWERS;
 // Stores a description's kind and position in its two places.
 fn put_description(description: Description, i: usize, numbers: &mut [u32])
     requires { 2 * i + 1 < length numbers.old }
-    ensures { numbers.new ≡ put (put numbers.old (2 * i) (description.kind ∷ [])) (2 * i + 1) (description.position ∷ []) }
+    ensures { numbers.new ≡ put numbers.old (2 * i) (listed (description ∷ [])) }
 {
     numbers[2 * i] = description.kind;
     numbers[2 * i + 1] = description.position;
@@ -141,14 +140,17 @@ pub fn put_descriptions(
     }
 }
 
-// The same of the descriptions of answers, of the first 32, and zeros behind them.
-pub fn put_turns(turns: &[Turn], out: &mut [u32; DESCRIPTION_NUMBERS])
-    ensures { out.new ≡ listed (described_all (take positions turns.now)) }
-{
-    *out = [0; DESCRIPTION_NUMBERS];
-    let numbers = &mut out[..];
-    let first = &turns[..MOST_ANSWERS.min(turns.len())];
-    for (i, turn) in first.iter().enumerate() {
-        put_description(Description::from(*turn), i, numbers);
+// A drain's places in the lent numbers: an answer's description.
+pub struct DescriptionPlaces;
+
+impl Places<[u32; DESCRIPTION_NUMBERS]> for DescriptionPlaces {
+    ghost stored = { described_in };
+
+    #[tactic(auto, using(octets::proofs::Store::put_past))]
+    fn store(numbers: &mut [u32; DESCRIPTION_NUMBERS], i: u32, turn: Turn) {
+        let i = i as usize;
+        if i < MOST_ANSWERS {
+            put_description(Description::from(turn), i, numbers);
+        }
     }
 }
