@@ -191,7 +191,8 @@ pub fn mola_serve(session: &mut Session, out: &mut [u8], store: &[u8]) -> Answer
     served.answer
 }
 
-// Serves until a serve waits or the budget is spent, and describes the answers in the lent numbers.
+// Serves until a serve waits or the budget is spent, and describes the answers in the lent numbers. Only the window is stored back: with the whole
+// session, which stays the same but for it, the run keeps the rest at hand too, and takes longer.
 pub fn mola_drain(
     session: &mut Session,
     out: &mut [u8],
@@ -203,7 +204,7 @@ pub fn mola_drain(
         result session.new out.new descriptions.new }
 {
     let drained = reorder_c::drain(*session, out, store, budget, descriptions);
-    *session = drained.session;
+    session.window = drained.session.window;
     drained.answer
 }
 
